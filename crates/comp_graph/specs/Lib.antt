@@ -1,0 +1,10 @@
+pub mod Vertices
+pub mod Sets
+pub mod Words
+pub mod WordLaws
+pub mod Operations
+pub mod Dags
+pub mod Graphs
+pub mod GraphView
+pub mod Games
+pub mod Laws

@@ -1,0 +1,9 @@
+//! Laws of all graphs. A call does nothing: its contract is the law.
+
+ghost use Rattle.comp_graph.specs.Laws.{LiveByPaths, DegreeIsGreatest};
+
+/// Live vertices are those from which a path leads to an output, and the degree is the greatest number of predecessors of one.
+pub fn live_vertices_and_degree()
+    ensures live { LiveByPaths }
+    ensures degree { DegreeIsGreatest }
+{}

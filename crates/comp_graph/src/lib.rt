@@ -1,0 +1,25 @@
+//! The computation graph of a straight-line integer program, and the red-blue pebble game on it.
+//!
+//! Sets of vertices, the operations and their values, graphs with their live vertices and their degree, and games, which are
+//! graphs with more slots than the degree. The laws of sets that all crates use stand in `proofs/Sets.antt` and
+//! `proofs/Rising.antt`.
+#![tactic(auto)]
+
+pub mod game;
+pub mod graph;
+pub mod label;
+pub mod laws;
+pub mod memory;
+pub mod node;
+pub mod operation;
+#[cfg(test)]
+mod tests;
+pub mod vertex_set;
+
+pub use game::{Game, TooSmall};
+pub use graph::Graph;
+pub use label::Label;
+pub use memory::NoMemory;
+pub use node::{Node, Operand, Output};
+pub use operation::Op;
+pub use vertex_set::VertexSet;
