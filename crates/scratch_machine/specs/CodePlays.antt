@@ -1,0 +1,111 @@
+-- A code plays a list of moves on a graph where both lists can be gone through together.
+use Rattle.std.specs.Prelude.{◌≡◌, ℕ, ◌+◌, None, Some, cond, nat_lt, Ok, ℤ, List, [], ◌∷◌, length, take, slice_get, ⊤}
+use Rattle.comp_graph.specs.declared.operation.Op.{Op}
+use Rattle.comp_graph.specs.declared.node.Operand.{Operand}
+use Rattle.comp_graph.specs.declared.node.Operand.TheVariants.{Vertex, Const as Constant}
+use Rattle.comp_graph.specs.declared.node.Node.{Node}
+use Rattle.comp_graph.specs.declared.node.Output.{Output}
+use Rattle.comp_graph.specs.Operations.{arity_of}
+use Rattle.comp_graph.specs.Graphs.{GraphParts, operands_of}
+use Rattle.pebble_rules.specs.declared.moves.Move.{Move}
+use Rattle.pebble_rules.specs.declared.moves.Move.TheVariants.{Load as LoadMove, Store as StoreMove, Compute, DropRed, DropBlue}
+use Rattle.scratch_machine.specs.declared.code.Source.{Source}
+use Rattle.scratch_machine.specs.declared.code.Source.TheVariants.{Slot, Const}
+use Rattle.scratch_machine.specs.declared.code.Instr.{Instr}
+use Rattle.scratch_machine.specs.declared.code.Instr.TheVariants.{Load, Store, Apply}
+use Rattle.scratch_machine.specs.declared.code.OutWord.{OutWord}
+use Rattle.scratch_machine.specs.Cells.{Cells, empty, put, cleared, IsNowhere}
+use Rattle.scratch_machine.specs.Codes.{CodeParts, IsCode}
+use Rattle.scratch_machine.specs.Machines.{run}
+use Rattle.scratch_machine.specs.Values.{AreValues, output_values}
+
+-- the vertex that each slot has, and each word
+pub record Places : Type 0 where
+  pub slots : Cells ℕ
+  pub words : Cells ℕ
+
+-- an operand that is a vertex is named by a slot that has it, and a constant is the same
+abbrev pub Names : Cells ℕ → Operand → Source → Type 0
+Names slots (Vertex u) (Slot k) = slots k ≡ Some u
+Names slots (Vertex u) (Const c) = ⊥
+Names slots (Constant d) (Slot k) = ⊥
+Names slots (Constant d) (Const c) = c ≡ d
+
+abbrev pub NamesAll : Cells ℕ → List Operand → List Source → Type 0
+NamesAll slots [] [] = ⊤
+NamesAll slots [] (a ∷ args) = ⊥
+NamesAll slots (x ∷ xs) [] = ⊥
+NamesAll slots (x ∷ xs) (a ∷ args) = Names slots x a × NamesAll slots xs args
+
+pub record IsLoadOf (p : Places) (v s a : ℕ) : Type 0 where
+  pub from_word : p.words a ≡ Some v
+  pub free_slot : p.slots s ≡ None
+  pub in_no_slot : IsNowhere p.slots v
+
+pub record IsStoreOf (p : Places) (v s a : ℕ) : Type 0 where
+  pub from_slot : p.slots s ≡ Some v
+  pub free_word : p.words a ≡ None
+
+pub record IsComputeOf (g : GraphParts) (p : Places) (v : ℕ) (op : Op) (s : ℕ) (args : List Source) : Type 0 where
+  pub node : Node
+  pub is_node : slice_get g.nodes v ≡ Some node
+  pub same_op : node.op ≡ op
+  pub operands : NamesAll p.slots (operands_of node) (take (arity_of op) args)
+  pub free_slot : p.slots s ≡ None
+  pub in_no_slot : IsNowhere p.slots v
+
+abbrev pub with_slot : Places → ℕ → ℕ → Places
+with_slot p s v = record { slots = put p.slots s v; words = p.words }
+
+abbrev pub with_word : Places → ℕ → ℕ → Places
+with_word p a v = record { slots = p.slots; words = put p.words a v }
+
+abbrev pub without_slot : Places → ℕ → Places
+without_slot p s = record { slots = cleared p.slots s; words = p.words }
+
+-- the instructions play the moves from p, and q is what the slots and words have at the end
+abbrev pub Plays : GraphParts → Places → List Move → List Instr → Places → Type 0
+Plays g p [] [] q = p ≡ q
+Plays g p [] (i ∷ is) q = ⊥
+Plays g p (LoadMove v ∷ ms) (Load s a ∷ is) q = IsLoadOf p v s a × Plays g (with_slot p s v) ms is q
+Plays g p (LoadMove v ∷ ms) _ q = ⊥
+Plays g p (StoreMove v ∷ ms) (Store s a ∷ is) q = IsStoreOf p v s a × Plays g (with_word p a v) ms is q
+Plays g p (StoreMove v ∷ ms) _ q = ⊥
+Plays g p (Compute v ∷ ms) (Apply op s args ∷ is) q = IsComputeOf g p v op s args × Plays g (with_slot p s v) ms is q
+Plays g p (Compute v ∷ ms) _ q = ⊥
+Plays g p (DropRed v ∷ ms) is q = (s : ℕ) × (p.slots s ≡ Some v) × Plays g (without_slot p s) ms is q
+Plays g p (DropBlue v ∷ ms) is q = ⊥
+
+-- no slot has a vertex, and word k has input k
+abbrev pub first_places : GraphParts → Places
+first_places g = record { slots = empty; words = λ k. cond (nat_lt k (length g.names)) (Some k) None }
+
+-- each output's word has that output's vertex
+abbrev pub HasOutputs : Places → List Output → List OutWord → Type 0
+HasOutputs p [] [] = ⊤
+HasOutputs p [] (w ∷ ws) = ⊥
+HasOutputs p (o ∷ os) [] = ⊥
+HasOutputs p (o ∷ os) (w ∷ ws) = (p.words w.word ≡ Some o.vertex) × HasOutputs p os ws
+
+-- the code plays the moves
+pub record CodePlays (g : GraphParts) (c : CodeParts) (ms : List Move) : Type 0 where
+  pub last : Places
+  pub plays : Plays g (first_places g) ms c.instructions last
+  pub outputs : HasOutputs last g.outputs c.outputs
+
+-- how many moves load, and how many store
+abbrev pub loads : List Move → ℕ
+loads [] = 0
+loads (LoadMove v ∷ ms) = loads ms + 1
+loads (_ ∷ ms) = loads ms
+
+abbrev pub stores : List Move → ℕ
+stores [] = 0
+stores (StoreMove v ∷ ms) = stores ms + 1
+stores (_ ∷ ms) = stores ms
+
+-- a code that plays a list of moves gives the output values on every input, with exactly the loads and stores of the moves
+abbrev pub CodeComputesOutputs : Type 0
+CodeComputesOutputs = (g : GraphParts) (c : CodeParts) (ms : List Move) → IsCode c → CodePlays g c ms
+    → (inputs : List ℤ) → length inputs ≡ length g.names → (value : ℕ → ℤ) → AreValues g inputs value
+    → run c inputs ≡ Ok (record { outputs = output_values g value; loads = loads ms; stores = stores ms })

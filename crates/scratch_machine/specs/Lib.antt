@@ -1,0 +1,6 @@
+pub mod Cells
+pub mod Codes
+pub mod CodeView
+pub mod Machines
+pub mod Values
+pub mod CodePlays
