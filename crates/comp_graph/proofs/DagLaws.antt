@@ -1,7 +1,7 @@
 -- Laws of live vertices and of the degree: tests below a number, paths to an output, and the greatest number of predecessors.
 use Rattle.std.proofs.Common.{◌≡◌, ℕ, zero, suc, ◌+◌, ◌≤◌, ◌<◌, max, Bool, true, false, ◌&&◌, ◌||◌, ◌⊎◌, inl, inr, cond, sym, refl, ap, ◌∙◌, arith}
 use Rattle.std.specs.FinSet as set
-use Rattle.comp_graph.specs.Vertices.{◌∈◌, size, any_below, greatest_below, AllBelow}
+use Rattle.comp_graph.specs.Vertices.{◌∈◌, size, any_below, greatest_below}
 use Rattle.comp_graph.specs.Dags.{Dag, IsDag, IsPath, here, edge, IsLive, IsDegree, leads_to_output, is_live, degree}
 use Rattle.comp_graph.specs.Laws.{LiveByPaths, DegreeIsGreatest}
 use Rattle.comp_graph.proofs.Sets.{size_le_below}

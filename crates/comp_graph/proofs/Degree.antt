@@ -1,7 +1,6 @@
 -- The steps of a loop that looks for the greatest number of predecessors of a live vertex.
-use Rattle.std.proofs.Common.{◌≡◌, ℕ, ◌+◌, ◌<◌, true, false, cond, max, suc, sym, ap, ◌∙◌, add-one, arith}
+use Rattle.std.proofs.Common.{◌≡◌, ℕ, ◌+◌, cond, max, sym, ap, ◌∙◌, add-one, arith}
 use Rattle.std.specs.Ordering.{nat_cmp, ord_max}
-use Rattle.std.specs.FinSet as set
 use Rattle.std.proofs.lemmas.Bool.Decides.{nat_tests}
 use Rattle.comp_graph.specs.Vertices.{◌∈◌, ◌∉◌, size, greatest_below}
 use Rattle.comp_graph.specs.Dags.{Dag, IsDag, is_live, live_of}

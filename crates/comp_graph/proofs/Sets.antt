@@ -1,5 +1,5 @@
 -- Laws of sets of vertices: members, induction a member at a time, and how many members there are.
-use Rattle.std.proofs.Common.{◌≡◌, ℕ, ◌+◌, ◌-◌, ◌≤◌, ◌<◌, zero, suc, Bool, true, false, not, ltb, ◌&&◌, ◌||◌, List, [], ◌∷◌, ◌⊎◌, cond, sym, refl, ap, ◌∙◌, subst, add-zero, add-suc, arith}
+use Rattle.std.proofs.Common.{◌≡◌, ℕ, ◌+◌, ◌-◌, ◌≤◌, ◌<◌, zero, suc, Bool, true, false, ltb, List, [], ◌∷◌, ◌⊎◌, cond, sym, refl, ap, ◌∙◌, subst, add-zero, add-suc, arith}
 use Rattle.std.specs.Ordering.{nat_cmp}
 use Rattle.std.specs.Cmp.{nat_cmp_total}
 use Rattle.std.specs.FinSet as set
@@ -65,7 +65,6 @@ by_list P base step (k ∷ ks) = insert_by_case P step (set_of ks) k (set.contai
 
 pub by_insert : (P : Vertices → Type 0) → P set.empty → ((s : Vertices) (k : ℕ) → k ∉ s → P s → P (set.insert s k)) → (s : Vertices) → P s
 by_insert P base step s = subst P (from_items s) (by_list P base step (set.items s))
-
 
 pub size_insert_new : (s : Vertices) (k : ℕ) → k ∉ s → size (set.insert s k) ≡ size s + 1
 size_insert_new s k h = grind (arith, size_insert)

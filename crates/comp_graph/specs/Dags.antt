@@ -1,5 +1,5 @@
 -- A computation graph as the game sees it: the predecessors of each vertex, the inputs and the outputs; live vertices and the degree.
-use Rattle.std.specs.Prelude.{◌≡◌, ℕ, zero, suc, ◌<◌, ◌≤◌, ◌↔◌, ◌⊎◌, Bool, true, cond, ◌&&◌, ◌||◌}
+use Rattle.std.specs.Prelude.{◌≡◌, ℕ, zero, suc, ◌<◌, ◌≤◌, ◌↔◌, ◌⊎◌, Bool, cond, ◌&&◌, ◌||◌}
 use Rattle.std.specs.FinSet as set
 use Rattle.comp_graph.specs.Vertices.{Vertices, ◌∈◌, size, any_below, greatest_below, set_below}
 

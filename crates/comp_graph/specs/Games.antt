@@ -19,6 +19,7 @@ pub record GameParts : Type 0 where
   pub graph : GraphParts
   pub slots : ℕ
 
+-- the game that such a pair is
 abbrev pub game_of : GameParts → PebbleGame
 game_of g = game_on g.graph g.slots
 

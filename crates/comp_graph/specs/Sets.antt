@@ -1,12 +1,12 @@
 -- Laws of sets of vertices that the model of `VertexSet` and its comparison rest on: what each call has, and when two sets are equal.
-use Rattle.std.proofs.Common.{◌≡◌, ℕ, ◌<◌, Bool, true, false, cond, not, zero, suc, ltb, eqb, ◌&&◌, ◌||◌, ◌↔◌, IsTrue, refl, sym, ap, ◌∙◌, arith}
+use Rattle.std.proofs.Common.{◌≡◌, ℕ, Bool, true, false, cond, not, zero, suc, ltb, eqb, ◌&&◌, ◌||◌, ◌↔◌, IsTrue, refl, sym, ap, ◌∙◌, arith}
 use Rattle.std.specs.Ordering.{nat_cmp}
 use Rattle.std.specs.Cmp.{nat_cmp_total, unsigned_tied, IsEquivalence}
 use Rattle.std.specs.FinSet as set
 use Rattle.std.specs.FinSet.{nat_cmp-IsAntisymmetric}
 use Rattle.std.proofs.lemmas.Bool.{and_left, and_parts, and_from, le-ltb}
 use Rattle.std.proofs.lemmas.Bool.Decides.{nat_tests}
-use Rattle.comp_graph.specs.Vertices.{Vertices, ◌∈◌, ◌∉◌, IsWithin, set_below}
+use Rattle.comp_graph.specs.Vertices.{Vertices, IsWithin, set_below}
 
 -- two sets with the same members are equal
 pub same : (s t : Vertices) → ((v : ℕ) → set.contains s v ≡ set.contains t v) → s ≡ t

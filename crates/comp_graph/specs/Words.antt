@@ -1,5 +1,5 @@
 -- A set of numbers below 256 in four words of 64 bits: number v is bit v mod 64 of word v div 64.
-use Rattle.std.specs.Prelude.{◌≡◌, ℕ, ◌+◌, ◌*◌, ◌/◌, ◌%◌, ◌^◌, ◌<◌, ◌≤◌, Bool, true, cond, zero, suc, List, [], ◌∷◌, length, nat_eq, slice_index}
+use Rattle.std.specs.Prelude.{◌≡◌, ℕ, ◌+◌, ◌*◌, ◌/◌, ◌%◌, ◌^◌, ◌<◌, Bool, cond, zero, suc, List, [], ◌∷◌, length, nat_eq, slice_index}
 use Rattle.std.specs.Ordering.{nat_cmp}
 use Rattle.std.specs.Int.{bit_at}
 use Rattle.std.specs.FinSet as set

@@ -76,7 +76,7 @@ impl Graph {
         &self.outputs
     }
 
-    /// The number of vertices, at most 256.
+    /// The number of vertices, from 0 to 256: they are the numbers below it.
     pub fn len(&self) -> u16
         ensures value { result ≡ length self.now.nodes }
         ensures valid { IsGraph self.now }
@@ -84,7 +84,7 @@ impl Graph {
         self.nodes.len() as u16
     }
 
-    /// The number of inputs.
+    /// The number of inputs: they are the vertices below it.
     pub fn inputs(&self) -> u16
         ensures value { result ≡ length self.now.names }
         ensures valid { IsGraph self.now }

@@ -1,4 +1,5 @@
--- A code plays a list of moves on a graph where both lists can be gone through together.
+-- A code plays a list of moves on a graph where both lists can be gone through together: what each move needs of its instruction,
+-- which vertex each slot and word then has, and the law that such a code computes the graph's outputs.
 use Rattle.std.specs.Prelude.{◌≡◌, ℕ, ◌+◌, None, Some, cond, nat_lt, Ok, ℤ, List, [], ◌∷◌, length, take, slice_get, ⊤}
 use Rattle.comp_graph.specs.declared.operation.Op.{Op}
 use Rattle.comp_graph.specs.declared.node.Operand.{Operand}
@@ -31,21 +32,26 @@ Names slots (Vertex u) (Const c) = ⊥
 Names slots (Constant d) (Slot k) = ⊥
 Names slots (Constant d) (Const c) = c ≡ d
 
+-- each operand is named by the source in its place
 abbrev pub NamesAll : Cells ℕ → List Operand → List Source → Type 0
 NamesAll slots [] [] = ⊤
 NamesAll slots [] (a ∷ args) = ⊥
 NamesAll slots (x ∷ xs) [] = ⊥
 NamesAll slots (x ∷ xs) (a ∷ args) = Names slots x a × NamesAll slots xs args
 
+-- `load s a` plays the load of v: word a has v, slot s is free, and v is in no slot
 pub record IsLoadOf (p : Places) (v s a : ℕ) : Type 0 where
   pub from_word : p.words a ≡ Some v
   pub free_slot : p.slots s ≡ None
   pub in_no_slot : IsNowhere p.slots v
 
+-- `store s a` plays the store of v: slot s has v, and word a is free
 pub record IsStoreOf (p : Places) (v s a : ℕ) : Type 0 where
   pub from_slot : p.slots s ≡ Some v
   pub free_word : p.words a ≡ None
 
+-- an operation plays the computation of v: it is that of v's node at v's operands, slot s is free while they are read, and v is in
+-- no slot
 pub record IsComputeOf (g : GraphParts) (p : Places) (v : ℕ) (op : Op) (s : ℕ) (args : List Source) : Type 0 where
   pub node : Node
   pub is_node : slice_get g.nodes v ≡ Some node
@@ -54,16 +60,20 @@ pub record IsComputeOf (g : GraphParts) (p : Places) (v : ℕ) (op : Op) (s : �
   pub free_slot : p.slots s ≡ None
   pub in_no_slot : IsNowhere p.slots v
 
+-- slot s has v, and the rest what it had
 abbrev pub with_slot : Places → ℕ → ℕ → Places
 with_slot p s v = record { slots = put p.slots s v; words = p.words }
 
+-- word a has v, and the rest what it had
 abbrev pub with_word : Places → ℕ → ℕ → Places
 with_word p a v = record { slots = p.slots; words = put p.words a v }
 
+-- slot s has nothing, and the rest what it had
 abbrev pub without_slot : Places → ℕ → Places
 without_slot p s = record { slots = cleared p.slots s; words = p.words }
 
--- the instructions play the moves from p, and q is what the slots and words have at the end
+-- the instructions play the moves from p, and q is what the slots and words have at the end; removing a red pebble takes no
+-- instruction, and no blue one is removed
 abbrev pub Plays : GraphParts → Places → List Move → List Instr → Places → Type 0
 Plays g p [] [] q = p ≡ q
 Plays g p [] (i ∷ is) q = ⊥
@@ -93,12 +103,13 @@ pub record CodePlays (g : GraphParts) (c : CodeParts) (ms : List Move) : Type 0 
   pub plays : Plays g (first_places g) ms c.instructions last
   pub outputs : HasOutputs last g.outputs c.outputs
 
--- how many moves load, and how many store
+-- how many moves load
 abbrev pub loads : List Move → ℕ
 loads [] = 0
 loads (LoadMove v ∷ ms) = loads ms + 1
 loads (_ ∷ ms) = loads ms
 
+-- how many moves store
 abbrev pub stores : List Move → ℕ
 stores [] = 0
 stores (StoreMove v ∷ ms) = stores ms + 1

@@ -1,3 +1,4 @@
+-- The definitions of code, of its machine and of playing moves.
 pub mod Cells
 pub mod Codes
 pub mod CodeView

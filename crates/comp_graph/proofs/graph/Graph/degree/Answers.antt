@@ -1,4 +1,4 @@
-use Rattle.std.proofs.Common.{◌≡◌, ap, ◌∙◌, sym, subst, arith, length}
+use Rattle.std.proofs.Common.{◌≡◌, ap, ◌∙◌, sym, subst, arith}
 use Rattle.std.specs.FinSet as set
 use Rattle.comp_graph.specs.Vertices.{greatest_below}
 use Rattle.comp_graph.specs.Dags.{IsDegree, degree}

@@ -1,0 +1,2 @@
+-- The lemmas that this crate's answers share.
+pub mod KnownBytes

@@ -1,0 +1,195 @@
+// A whole input or file is read, and a whole text is written, by calls that take or put any number of bytes.
+ghost use Rattle.std.specs.Prelude.{◌≡◌, ℕ, ◌<◌, ◌≤◌, ◌⊎◌, List, length, take, IfOk, OnOk, OnErr};
+ghost use Rattle.std.specs.Io.KnownBytes.{append_known, prepend_known};
+ghost use Rattle.desk_io.specs.declared.desk.Kind.{Kind};
+ghost use Rattle.desk_io.specs.Counts.{Rose};
+ghost use Rattle.desk_io.specs.Known.{file_of, Tells, TellsMore, TookAtMost, TookMore, TellsFile, TellsMoreFile, input_end};
+
+use crate::desk::{Desk, Failed, Kind};
+use std::alloc::Global;
+use std::fmt;
+
+/// The most bytes that one take is asked for.
+const PIECE: usize = 4096;
+
+/// Why an input or a file was not read to its end. The numbers are this project's convention.
+#[derive(Clone, Copy, Debug, PartialEq, Eq)]
+pub enum ReadEnd {
+    /// More bytes stand there than the limit allows.
+    TooLong = 1,
+    /// A take failed.
+    ReadFault = 2,
+    /// There was no memory for the bytes.
+    NoMemory = 3,
+}
+
+impl fmt::Display for ReadEnd {
+    fn fmt<W: fmt::Write>(&self, f: &mut fmt::Formatter<W>) -> fmt::Result {
+        match self {
+            ReadEnd::TooLong => f.write_str("more bytes than the limit"),
+            ReadEnd::ReadFault => f.write_str("a read failed"),
+            ReadEnd::NoMemory => f.write_str("out of memory"),
+        }
+    }
+}
+
+impl std::error::Error for ReadEnd {}
+
+/// A write failed, so that not all of a text was written.
+#[derive(Clone, Copy, Debug, PartialEq, Eq)]
+pub struct WriteFault;
+
+impl fmt::Display for WriteFault {
+    fn fmt<W: fmt::Write>(&self, f: &mut fmt::Formatter<W>) -> fmt::Result {
+        f.write_str("a write failed")
+    }
+}
+
+impl std::error::Error for WriteFault {}
+
+/// The whole input that is left, read to its end, where it has at most `limit` bytes.
+///
+/// `TooLong` comes exactly where more than `limit` bytes stand there and no take failed before `limit + 1` of
+/// them were taken. `ReadFault` comes only where the desk's count of failed takes from the input rose in this
+/// call; then at most `limit` bytes were taken. `NoMemory` comes only for want of memory. After an error the
+/// bytes that were taken are lost, and the rest of the input is left. The file, the output and the other
+/// counts stay as they were. Each turn takes at least one byte or ends, so there are at most `limit + 2` turns.
+pub fn read_input<D: Desk>(alloc: Global, desk: &mut D, limit: u32) -> Result<Vec<u8>, ReadEnd>
+    ensures whole { IfOk result (λ text. Tells (D.input desk.old) text.items) }
+    ensures fits { IfOk result (λ text. length text.items ≤ limit) }
+    ensures end { OnOk result (D.input desk.new ≡ input_end (D.input desk.old)) }
+
+    ensures too_long { result ≡ Err ReadEnd.TooLong → TellsMore (D.input desk.old) limit }
+    ensures late { result ≡ Err ReadEnd.TooLong → TookMore (D.input desk.old) (D.input desk.new) limit }
+    ensures cause { result ≡ Err ReadEnd.ReadFault →
+        Rose (D.faults desk.old Kind.TakeInput) (D.faults desk.new Kind.TakeInput) }
+    ensures early { result ≡ Err ReadEnd.ReadFault → TookAtMost (D.input desk.old) (D.input desk.new) limit }
+    ensures lost { OnErr result ((taken : List ℕ) × (D.input desk.old ≡ prepend_known taken (D.input desk.new))) }
+    ensures no_fault { (result ≡ Err ReadEnd.ReadFault → ⊥) →
+        D.faults desk.new Kind.TakeInput ≡ D.faults desk.old Kind.TakeInput }
+
+    ensures other_faults { (other : Kind) → (other ≡ Kind.TakeInput → ⊥) →
+        D.faults desk.new other ≡ D.faults desk.old other }
+    ensures same_name { D.name desk.new ≡ D.name desk.old }
+    ensures same_file { D.file desk.new ≡ D.file desk.old }
+    ensures same_output { D.output desk.new ≡ D.output desk.old }
+{
+    let mut text = Vec::new(alloc);
+    let mut buf = [0u8; PIECE];
+    while text.len() <= limit as usize {
+        match desk.take_input(&mut buf) {
+            Ok(0) => return Ok(text),
+            Ok(count) => {
+                if text.extend_from_slice(&buf[..count]).is_err() {
+                    return Err(ReadEnd::NoMemory);
+                }
+            }
+            Err(Failed) => return Err(ReadEnd::ReadFault),
+        }
+    }
+    Err(ReadEnd::TooLong)
+}
+
+/// The whole file, where it has at most `limit` bytes.
+///
+/// `TooLong` comes exactly where more than `limit` bytes stand there and no take failed before `limit + 1` of
+/// them were taken. `ReadFault` comes only where the desk's count of failed takes from the file rose in this
+/// call; a missing file is one. `NoMemory` comes only for want of memory. The input, the file, the output and
+/// the other counts stay as they were. Each turn takes at least one byte or ends, so there are at most
+/// `limit + 2` turns.
+pub fn read_file<D: Desk>(alloc: Global, desk: &mut D, limit: u32) -> Result<Vec<u8>, ReadEnd>
+    ensures whole { IfOk result (λ text. TellsFile (D.file desk.old) text.items) }
+    ensures fits { IfOk result (λ text. length text.items ≤ limit) }
+
+    ensures too_long { result ≡ Err ReadEnd.TooLong → TellsMoreFile (D.file desk.old) limit }
+    ensures cause { result ≡ Err ReadEnd.ReadFault →
+        Rose (D.faults desk.old Kind.TakeFile) (D.faults desk.new Kind.TakeFile) }
+    ensures no_fault { (result ≡ Err ReadEnd.ReadFault → ⊥) →
+        D.faults desk.new Kind.TakeFile ≡ D.faults desk.old Kind.TakeFile }
+
+    ensures other_faults { (other : Kind) → (other ≡ Kind.TakeFile → ⊥) →
+        D.faults desk.new other ≡ D.faults desk.old other }
+    ensures same_name { D.name desk.new ≡ D.name desk.old }
+    ensures same_input { D.input desk.new ≡ D.input desk.old }
+    ensures same_file { D.file desk.new ≡ D.file desk.old }
+    ensures same_output { D.output desk.new ≡ D.output desk.old }
+{
+    let mut text = Vec::new(alloc);
+    let mut buf = [0u8; PIECE];
+    while text.len() <= limit as usize {
+        match desk.take_file(text.len() as u32, &mut buf) {
+            Ok(0) => return Ok(text),
+            Ok(count) => {
+                if text.extend_from_slice(&buf[..count]).is_err() {
+                    return Err(ReadEnd::NoMemory);
+                }
+            }
+            Err(Failed) => return Err(ReadEnd::ReadFault),
+        }
+    }
+    Err(ReadEnd::TooLong)
+}
+
+/// Appends exactly `text` to the output.
+///
+/// `WriteFault` comes only where the desk's count of failed puts to the output rose in this call; then a prefix of
+/// `text` was appended. The input, the file and the other counts stay as they were. Each turn puts at least one
+/// byte or ends, and no memory is taken.
+pub fn write_output<D: Desk>(desk: &mut D, text: &[u8]) -> Result<(), WriteFault>
+    ensures ok { OnOk result (D.output desk.new ≡ append_known (D.output desk.old) text.now) }
+    ensures prefix { OnErr result ((count : ℕ) × (count ≤ length text.now)
+        × (D.output desk.new ≡ append_known (D.output desk.old) (take count text.now))) }
+    ensures cause { OnErr result (Rose (D.faults desk.old Kind.PutOutput) (D.faults desk.new Kind.PutOutput)) }
+    ensures no_fault { OnOk result (D.faults desk.new Kind.PutOutput ≡ D.faults desk.old Kind.PutOutput) }
+
+    ensures other_faults { (other : Kind) → (other ≡ Kind.PutOutput → ⊥) →
+        D.faults desk.new other ≡ D.faults desk.old other }
+    ensures same_name { D.name desk.new ≡ D.name desk.old }
+    ensures same_input { D.input desk.new ≡ D.input desk.old }
+    ensures same_file { D.file desk.new ≡ D.file desk.old }
+{
+    let mut done = 0;
+    while done < text.len() {
+        match desk.put_output(&text[done..]) {
+            Ok(count) => done += count,
+            Err(Failed) => return Err(WriteFault),
+        }
+    }
+    Ok(())
+}
+
+/// Makes the file be there with exactly these bytes.
+///
+/// `WriteFault` comes only where the desk's count of failed clears or of failed puts to the file rose in this call.
+/// Where the clear failed, the file is as it was and nothing was put; else the file is there and holds a prefix
+/// of `bytes`. The input, the output and the other counts stay as they were. Each turn puts at least one byte or
+/// ends, and no memory is taken.
+pub fn write_file<D: Desk>(desk: &mut D, bytes: &[u8]) -> Result<(), WriteFault>
+    ensures ok { OnOk result (D.file desk.new ≡ file_of (D.file desk.old) bytes.now) }
+    ensures not_cleared { OnErr result (
+        Rose (D.faults desk.old Kind.ClearFile) (D.faults desk.new Kind.ClearFile) × (D.file desk.new ≡ D.file desk.old)
+        ⊎ Rose (D.faults desk.old Kind.PutFile) (D.faults desk.new Kind.PutFile) × ((count : ℕ) × (count ≤ length bytes.now)
+        × (D.file desk.new ≡ file_of (D.file desk.old) (take count bytes.now)))) }
+    ensures kept { OnErr result (Rose (D.faults desk.old Kind.ClearFile) (D.faults desk.new Kind.ClearFile) →
+        (D.file desk.new ≡ D.file desk.old) × (D.faults desk.new Kind.PutFile ≡ D.faults desk.old Kind.PutFile)) }
+    ensures no_fault { OnOk result ((D.faults desk.new Kind.ClearFile ≡ D.faults desk.old Kind.ClearFile)
+        × (D.faults desk.new Kind.PutFile ≡ D.faults desk.old Kind.PutFile)) }
+
+    ensures other_faults { (other : Kind) → (other ≡ Kind.ClearFile → ⊥) → (other ≡ Kind.PutFile → ⊥) →
+        D.faults desk.new other ≡ D.faults desk.old other }
+    ensures same_name { D.name desk.new ≡ D.name desk.old }
+    ensures same_input { D.input desk.new ≡ D.input desk.old }
+    ensures same_output { D.output desk.new ≡ D.output desk.old }
+{
+    if desk.clear_file().is_err() {
+        return Err(WriteFault);
+    }
+    let mut done = 0;
+    while done < bytes.len() {
+        match desk.put_file(&bytes[done..]) {
+            Ok(count) => done += count,
+            Err(Failed) => return Err(WriteFault),
+        }
+    }
+    Ok(())
+}

@@ -1,0 +1,152 @@
+-- What a status says of the command, the input and the table.
+use Rattle.std.proofs.Common.{◌≡◌, ◌≢◌, ◌⊎◌, ◌<◌, ◌≤◌, ◌+◌, ℕ, true, false, List, None, Some, refl, sym, ap, ◌∙◌, subst, inl, inr, arith}
+use Rattle.std.specs.declared.option.Option.{Option}
+use Rattle.comp_graph.specs.Dags.{degree}
+use Rattle.comp_graph.specs.Graphs.{GraphParts, dag_of}
+use Rattle.pebble_cli.specs.declared.status.Status.{Status}
+use Rattle.pebble_cli.specs.declared.status.Status.TheVariants.{Optimal, Done, Usage, Kernel, TooSmall, Open, ReadFault, WriteFault, NoMemory}
+use Rattle.pebble_cli.specs.declared.words.Command.{Command}
+use Rattle.pebble_cli.specs.declared.words.Command.TheVariants as asked
+use Rattle.pebble_cli.specs.SimpleKernels.{KernelParts}
+use Rattle.pebble_cli.specs.SimpleGraphs.{IsSimple}
+use Rattle.pebble_cli.specs.PlanAnswers.{IsPlanned}
+use Rattle.pebble_cli.specs.Answers.{Answers, Refuses, Plans, IsFaulty, IsTooSmall, IsNotSimple}
+use Rattle.pebble_cli.proofs.SimpleTextLaws.{one_reading}
+
+-- the two ways to refuse a text
+refuses : (slots : ℕ) (text : List ℕ) (status : Status) (printed : List ℕ) (table : Option (List ℕ)) → Refuses slots text status printed table →
+    ((status ≡ Kernel) × IsFaulty text printed table) ⊎ ((status ≡ TooSmall) × IsTooSmall slots text printed table)
+refuses slots text Kernel printed table h = inl (refl, h)
+refuses slots text TooSmall printed table h = inr (refl, h)
+refuses slots text status printed table h = absurd h
+
+-- the two verdicts
+plans : (slots budget : ℕ) (text : List ℕ) (status : Status) (printed : List ℕ) (table : Option (List ℕ)) → Plans slots budget text status printed table →
+    ((status ≡ Optimal) × IsPlanned slots budget text true printed table) ⊎ ((status ≡ Open) × IsPlanned slots budget text false printed table)
+plans slots budget text Optimal printed table h = inl (refl, h)
+plans slots budget text Open printed table h = inr (refl, h)
+plans slots budget text status printed table h = absurd h
+
+-- what the answers of a command are
+pub record IsOneOf (slots budget : ℕ) (text : List ℕ) (status : Status) (printed : List ℕ) (table : Option (List ℕ)) : Type 0 where
+  pub cases : (((status ≡ Kernel) × IsFaulty text printed table) ⊎ ((status ≡ TooSmall) × IsTooSmall slots text printed table))
+      ⊎ (((status ≡ Optimal) × IsPlanned slots budget text true printed table) ⊎ ((status ≡ Open) × IsPlanned slots budget text false printed table))
+
+one_of : (slots budget : ℕ) (text : List ℕ) (status : Status) (printed : List ℕ) (table : Option (List ℕ))
+    → Answers (Some (asked.Plan slots budget)) text status printed table → IsOneOf slots budget text status printed table
+one_of slots budget text status printed table (inl h) = record { cases = inl (refuses slots text status printed table h) }
+one_of slots budget text status printed table (inr h) = record { cases = inr (plans slots budget text status printed table h) }
+
+-- an answer is no fault of the desk or of memory
+pub no_fault : (command : Option Command) (text : List ℕ) (status : Status) (printed : List ℕ) (table : Option (List ℕ)) →
+    Answers command text status printed table → (status ≡ ReadFault) ⊎ ((status ≡ WriteFault) ⊎ (status ≡ NoMemory)) → ⊥
+no_fault None text status printed table h is = elim is [ inl e ↦ absurd cc | inr (inl e) ↦ absurd cc | inr (inr e) ↦ absurd cc ]
+no_fault (Some (asked.Plan slots budget)) text status printed table h is =
+    elim (one_of slots budget text status printed table h).cases [
+      | inl (inl k) ↦ elim is [ inl e ↦ absurd cc | inr (inl e) ↦ absurd cc | inr (inr e) ↦ absurd cc ]
+      | inl (inr k) ↦ elim is [ inl e ↦ absurd cc | inr (inl e) ↦ absurd cc | inr (inr e) ↦ absurd cc ]
+      | inr (inl k) ↦ elim is [ inl e ↦ absurd cc | inr (inl e) ↦ absurd cc | inr (inr e) ↦ absurd cc ]
+      | inr (inr k) ↦ elim is [ inl e ↦ absurd cc | inr (inl e) ↦ absurd cc | inr (inr e) ↦ absurd cc ]
+    ]
+
+-- a verdict is that of a plan, and its table is written
+pub verdict_of_plan : (command : Option Command) (text : List ℕ) (status : Status) (printed : List ℕ) (table : Option (List ℕ)) →
+    Answers command text status printed table → (status ≡ Optimal) ⊎ (status ≡ Open) →
+    (slots : ℕ) × (budget : ℕ) × (bytes : List ℕ) × (command ≡ Some (asked.Plan slots budget)) × Plans slots budget text status printed (Some bytes) × (table ≡ Some bytes)
+verdict_of_plan None text status printed table h is = elim is [ inl e ↦ absurd cc | inr e ↦ absurd cc ]
+verdict_of_plan (Some (asked.Plan slots budget)) text status printed None (inl h) is =
+    elim (refuses slots text status printed None h) [ inl k ↦ elim is [ inl e ↦ absurd cc | inr e ↦ absurd cc ] | inr k ↦ elim is [ inl e ↦ absurd cc | inr e ↦ absurd cc ] ]
+verdict_of_plan (Some (asked.Plan slots budget)) text status printed (Some bytes) (inl h) is =
+    elim (refuses slots text status printed (Some bytes) h) [ inl k ↦ elim is [ inl e ↦ absurd cc | inr e ↦ absurd cc ] | inr k ↦ elim is [ inl e ↦ absurd cc | inr e ↦ absurd cc ] ]
+verdict_of_plan (Some (asked.Plan slots budget)) text status printed None (inr h) is =
+    elim (plans slots budget text status printed None h) [ inl k ↦ let none = k.1.bytes in absurd cc | inr k ↦ let none = k.1.bytes in absurd cc ]
+verdict_of_plan (Some (asked.Plan slots budget)) text status printed (Some bytes) (inr h) is = (slots, budget, bytes, refl, h, refl)
+
+-- with any other status no table is written
+pub no_table : (command : Option Command) (text : List ℕ) (status : Status) (printed : List ℕ) (table : Option (List ℕ)) →
+    Answers command text status printed table → status ≢ Optimal → status ≢ Open → table ≡ None
+no_table None text status printed table h a b = h.1.none
+no_table (Some (asked.Plan slots budget)) text status printed table h a b =
+    elim (one_of slots budget text status printed table h).cases [
+      | inl (inl k) ↦ k.1.none
+      | inl (inr k) ↦ k.1.none
+      | inr (inl k) ↦ absurd (a k.0)
+      | inr (inr k) ↦ absurd (b k.0)
+    ]
+
+-- what Kernel and TooSmall say
+pub faulty_text : (command : Option Command) (text : List ℕ) (status : Status) (printed : List ℕ) (table : Option (List ℕ)) →
+    Answers command text status printed table → status ≡ Kernel → IsFaulty text printed table
+faulty_text None text status printed table h is = absurd cc
+faulty_text (Some (asked.Plan slots budget)) text status printed table h is =
+    elim (one_of slots budget text status printed table h).cases [
+      | inl (inl k) ↦ k.1
+      | inl (inr k) ↦ absurd cc
+      | inr (inl k) ↦ absurd cc
+      | inr (inr k) ↦ absurd cc
+    ]
+
+pub too_small_text_of : (command : Option Command) (text : List ℕ) (status : Status) (printed : List ℕ) (table : Option (List ℕ)) →
+    Answers command text status printed table → status ≡ TooSmall → (slots : ℕ) × (budget : ℕ) × (command ≡ Some (asked.Plan slots budget)) × IsTooSmall slots text printed table
+too_small_text_of None text status printed table h is = absurd cc
+too_small_text_of (Some (asked.Plan slots budget)) text status printed table h is =
+    elim (one_of slots budget text status printed table h).cases [
+      | inl (inl k) ↦ absurd cc
+      | inl (inr k) ↦ (slots, budget, refl, k.1)
+      | inr (inl k) ↦ absurd cc
+      | inr (inr k) ↦ absurd cc
+    ]
+
+-- Usage is answered to no command alone
+pub usage_of : (command : Option Command) (text : List ℕ) (status : Status) (printed : List ℕ) (table : Option (List ℕ)) →
+    Answers command text status printed table → status ≡ Usage → command ≡ None
+usage_of None text status printed table h is = refl
+usage_of (Some (asked.Plan slots budget)) text status printed table h is =
+    elim (one_of slots budget text status printed table h).cases [
+      | inl (inl k) ↦ absurd cc
+      | inl (inr k) ↦ absurd cc
+      | inr (inl k) ↦ absurd cc
+      | inr (inr k) ↦ absurd cc
+    ]
+
+-- ---- what is answered to each kind of text
+
+pub answer_to_faulty : (slots budget : ℕ) (text : List ℕ) (status : Status) (printed : List ℕ) (table : Option (List ℕ)) →
+    Answers (Some (asked.Plan slots budget)) text status printed table → IsNotSimple text → status ≡ Kernel
+answer_to_faulty slots budget text status printed table h bad =
+    elim (one_of slots budget text status printed table h).cases [
+      | inl (inl k) ↦ k.0
+      | inl (inr k) ↦ absurd (bad k.1.kernel k.1.graph k.1.simple)
+      | inr (inl k) ↦ absurd (bad k.1.kernel k.1.graph k.1.simple)
+      | inr (inr k) ↦ absurd (bad k.1.kernel k.1.graph k.1.simple)
+    ]
+
+-- the degree of the one graph of a text
+one_degree : (text : List ℕ) (k j : KernelParts) (g h : GraphParts) → IsSimple text k g → IsSimple text j h → degree (dag_of g) ≡ degree (dag_of h)
+one_degree text k j g h a b = ap (λ x. degree (dag_of x)) (one_reading text k j g h a b).1
+
+pub answer_to_small : (slots budget : ℕ) (text : List ℕ) (kernel : KernelParts) (graph : GraphParts) (status : Status) (printed : List ℕ) (table : Option (List ℕ)) →
+    Answers (Some (asked.Plan slots budget)) text status printed table → IsSimple text kernel graph → slots ≤ degree (dag_of graph) → status ≡ TooSmall
+answer_to_small slots budget text kernel graph status printed table h simple small =
+    elim (one_of slots budget text status printed table h).cases [
+      | inl (inl k) ↦ absurd (k.1.fault kernel graph simple)
+      | inl (inr k) ↦ k.0
+      | inr (inl k) ↦ absurd (omega (arith, k.1.room, one_degree text kernel k.1.kernel graph k.1.graph simple k.1.simple))
+      | inr (inr k) ↦ absurd (omega (arith, k.1.room, one_degree text kernel k.1.kernel graph k.1.graph simple k.1.simple))
+    ]
+
+pub answer_to_room : (slots budget : ℕ) (text : List ℕ) (kernel : KernelParts) (graph : GraphParts) (status : Status) (printed : List ℕ) (table : Option (List ℕ)) →
+    Answers (Some (asked.Plan slots budget)) text status printed table → IsSimple text kernel graph → degree (dag_of graph) < slots → (status ≡ Optimal) ⊎ (status ≡ Open)
+answer_to_room slots budget text kernel graph status printed table h simple room =
+    elim (one_of slots budget text status printed table h).cases [
+      | inl (inl k) ↦ absurd (k.1.fault kernel graph simple)
+      | inl (inr k) ↦ absurd (omega (arith, k.1.small, one_degree text kernel k.1.kernel graph k.1.graph simple k.1.simple))
+      | inr (inl k) ↦ inl k.0
+      | inr (inr k) ↦ inr k.0
+    ]
+
+-- answers of equal commands and texts
+pub answers_at : {asked command : Option Command} {told text : List ℕ} (status : Status) (printed : List ℕ) (table : Option (List ℕ))
+    → asked ≡ command → told ≡ text → Answers asked told status printed table → Answers command text status printed table
+answers_at {command = command} {told = told} status printed table same is h =
+    subst (λ t. Answers command t status printed table) is (subst (λ x. Answers x told status printed table) same h)

@@ -1,0 +1,18 @@
+-- There is a text that the desk tells, also where it tells none.
+use Rattle.std.proofs.Common.{◌≡◌, ◌<◌, ◌+◌, ℕ, List, [], length, replicate, None, Some, refl, arith}
+use Rattle.std.proofs.lemmas.List.{length-replicate}
+use Rattle.std.specs.declared.option.Option.{Option}
+use Rattle.desk_io.specs.Known.{Tells, TellsMore}
+use Rattle.pebble_cli.specs.Answers.{IsNotSimple}
+
+pub told_text : (known : Option (List ℕ)) → (text : List ℕ) × Tells known text
+told_text None = ([], tt)
+told_text (Some known) = (known, refl)
+
+pub told_more : (known : Option (List ℕ)) (limit : ℕ) → TellsMore known limit → (text : List ℕ) × Tells known text × (limit < length text)
+told_more None limit more = (replicate (limit + 1) 0, tt, rw (length-replicate {A = ℕ} (limit + 1) 0) (omega arith))
+told_more (Some known) limit more = (known, refl, more)
+
+-- a text of more than 65,536 bytes is not simple
+pub too_long : (text : List ℕ) → 65536 < length text → IsNotSimple text
+too_long text more kernel graph simple = omega (arith, simple.short)

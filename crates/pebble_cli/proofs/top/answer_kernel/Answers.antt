@@ -1,0 +1,11 @@
+use Rattle.pebble_cli.proofs.Told.{told_more, too_long}
+use Rattle.pebble_cli.proofs.top.answer_kernel.Goals as goal
+
+pub returns-in_ok-command_answer-in-Ok-clause-answers : goal.returns-in_ok-command_answer-in-Ok-clause-answers
+returns-in_ok-command_answer-in-Ok-clause-answers g c =
+    (c.in-Ok.text.items, c.in-Ok.ensures.whole, rw c.deref.ensures.value at c.in_ok-command_answer-in-Ok.ensures)
+
+pub returns-in_ok-too_long_answer-in-Err-TooLong-clause-answers : goal.returns-in_ok-too_long_answer-in-Err-TooLong-clause-answers
+returns-in_ok-too_long_answer-in-Err-TooLong-clause-answers g c =
+    let told = told_more _ 65536 (c.in-Err-TooLong.ensures.too_long cc) in
+    (told.0, told.1, c.in_ok-too_long_answer-in-Err-TooLong.ensures told.0 (too_long told.0 told.2))

@@ -1,0 +1,88 @@
+-- What the program answers to its words and its input: the status, the printed text, and the table that is written, if one is.
+use Rattle.std.specs.Prelude.{◌≡◌, ◌⊎◌, ℕ, ◌+◌, ◌≤◌, Bool, true, false, List, ◌++◌, codes, Option, None, Some}
+use Rattle.std.specs.Fmt.{decimal}
+use Rattle.desk_io.specs.declared.desk.Kind.{Kind}
+use Rattle.desk_io.specs.declared.desk.Kind.TheVariants.{TakeInput, PutOutput, PutFile, ClearFile}
+use Rattle.desk_io.specs.Counts.{Rose}
+use Rattle.comp_graph.specs.Dags.{degree}
+use Rattle.comp_graph.specs.Graphs.{GraphParts, dag_of}
+use Rattle.pebble_cli.specs.declared.status.Status.{Status}
+use Rattle.pebble_cli.specs.declared.status.Status.TheVariants.{Optimal, Usage, Kernel, TooSmall, Open, ReadFault, WriteFault, NoMemory}
+use Rattle.pebble_cli.specs.declared.words.Command.{Command}
+use Rattle.pebble_cli.specs.declared.words.Command.TheVariants as asked
+use Rattle.pebble_cli.specs.SimpleKernels.{KernelParts}
+use Rattle.pebble_cli.specs.SimpleGraphs.{IsSimple}
+use Rattle.pebble_cli.specs.PlanAnswers.{IsPlanned}
+
+-- the line that says which words there are
+abbrev pub usage_text : List ℕ
+usage_text = codes "usage: pebble plan S TABLE [BUDGET], check S TABLE, run VALUES, exec VALUES, graph, trial N S TABLE\n"
+
+-- the line for a text that is not simple
+abbrev pub not_simple_text : List ℕ
+not_simple_text = codes "kernel fault K0 at 0\n"
+
+-- the line that says how many slots are needed
+abbrev pub too_small_text : ℕ → List ℕ
+too_small_text needs = codes "too small needs " ++ decimal needs ++ codes "\n"
+
+-- no kernel and no graph are those of the text
+abbrev pub IsNotSimple : List ℕ → Type 0
+IsNotSimple text = (kernel : KernelParts) (graph : GraphParts) → IsSimple text kernel graph → ⊥
+
+-- the usage line is printed, and no table is written
+pub record IsUsage (printed : List ℕ) (table : Option (List ℕ)) : Type 0 where
+  pub line : printed ≡ usage_text
+  pub none : table ≡ None
+
+-- the text is not simple, which is printed as fault 0 at 0, and no table is written
+pub record IsFaulty (text : List ℕ) (printed : List ℕ) (table : Option (List ℕ)) : Type 0 where
+  pub fault : IsNotSimple text
+  pub line : printed ≡ not_simple_text
+  pub none : table ≡ None
+
+-- there are no more slots than the degree of the text's graph, the degree plus 1 is printed, and no table is written
+pub record IsTooSmall (slots : ℕ) (text : List ℕ) (printed : List ℕ) (table : Option (List ℕ)) : Type 0 where
+  pub kernel : KernelParts
+  pub graph : GraphParts
+  pub simple : IsSimple text kernel graph
+  pub small : slots ≤ degree (dag_of graph)
+  pub line : printed ≡ too_small_text (degree (dag_of graph) + 1)
+  pub none : table ≡ None
+
+-- a text that is not planned
+abbrev pub Refuses : ℕ → List ℕ → Status → List ℕ → Option (List ℕ) → Type 0
+Refuses slots text Kernel printed table = IsFaulty text printed table
+Refuses slots text TooSmall printed table = IsTooSmall slots text printed table
+Refuses slots text _ printed table = ⊥
+
+-- a text that is planned
+abbrev pub Plans : ℕ → ℕ → List ℕ → Status → List ℕ → Option (List ℕ) → Type 0
+Plans slots budget text Optimal printed table = IsPlanned slots budget text true printed table
+Plans slots budget text Open printed table = IsPlanned slots budget text false printed table
+Plans slots budget text _ printed table = ⊥
+
+-- the status of a verdict
+abbrev pub verdict_status : Bool → Status
+verdict_status true = Optimal
+verdict_status false = Open
+
+-- the status, the text and the table that answer a command with this input; words that spell no command answer Usage
+abbrev pub Answers : Option Command → List ℕ → Status → List ℕ → Option (List ℕ) → Type 0
+Answers None text status printed table = (status ≡ Usage) × IsUsage printed table
+Answers (Some (asked.Plan slots budget)) text status printed table = Refuses slots text status printed table ⊎ Plans slots budget text status printed table
+
+-- a take failed that the command makes
+abbrev pub ReadCause : Option Command → (Kind → ℕ) → (Kind → ℕ) → Type 0
+ReadCause None before now = ⊥
+ReadCause (Some (asked.Plan slots budget)) before now = Rose (before TakeInput) (now TakeInput)
+
+-- the status, or one of those to which each other status yields
+abbrev pub IsYielded : Status → Status → Type 0
+IsYielded result status = (result ≡ status) ⊎ ((result ≡ ReadFault) ⊎ ((result ≡ WriteFault) ⊎ (result ≡ NoMemory)))
+
+-- the counts of the calls that write stay as they were
+pub record SameWriteFaults (before now : Kind → ℕ) : Type 0 where
+  pub output : now PutOutput ≡ before PutOutput
+  pub file : now PutFile ≡ before PutFile
+  pub clear : now ClearFile ≡ before ClearFile

@@ -1,0 +1,72 @@
+-- The one text of a code, as lines of parts (this project's convention).
+use Rattle.std.specs.Prelude.{ℕ, List, [], ◌∷◌, ◌++◌, map, take, codes}
+use Rattle.std.specs.Fmt.{decimal, signed_decimal}
+use Rattle.comp_graph.specs.declared.operation.Op.{Op}
+use Rattle.comp_graph.specs.declared.operation.Op.TheVariants.{Input, Set, Add, Sub, Mul, And, Or, Xor, Neg, Min, Max, Sel, Mad}
+use Rattle.comp_graph.specs.Operations.{arity_of}
+use Rattle.scratch_machine.specs.declared.code.Source.{Source}
+use Rattle.scratch_machine.specs.declared.code.Source.TheVariants.{Slot, Const}
+use Rattle.scratch_machine.specs.declared.code.Instr.{Instr}
+use Rattle.scratch_machine.specs.declared.code.Instr.TheVariants.{Load, Store, Apply}
+use Rattle.scratch_machine.specs.declared.code.OutWord.{OutWord}
+use Rattle.scratch_machine.specs.Codes.{CodeParts}
+
+-- parts, each after a space
+abbrev pub after_spaces : List (List ℕ) → List ℕ
+after_spaces [] = []
+after_spaces (part ∷ parts) = 32 ∷ (part ++ after_spaces parts)
+
+-- a line: its first word, then the other parts
+abbrev pub line : List ℕ → List (List ℕ) → List ℕ
+line word parts = word ++ after_spaces parts
+
+-- each line with its line feed
+abbrev pub ended : List (List ℕ) → List ℕ
+ended [] = []
+ended (line ∷ lines) = line ++ 10 ∷ ended lines
+
+-- the word of an operation
+abbrev pub op_word : Op → List ℕ
+op_word Input = codes "input"
+op_word Set = codes "set"
+op_word Add = codes "add"
+op_word Sub = codes "sub"
+op_word Mul = codes "mul"
+op_word And = codes "and"
+op_word Or = codes "or"
+op_word Xor = codes "xor"
+op_word Neg = codes "neg"
+op_word Min = codes "min"
+op_word Max = codes "max"
+op_word Sel = codes "sel"
+op_word Mad = codes "mad"
+
+-- an operand: `s` and the slot, or `#` and the constant
+abbrev pub operand_text : Source → List ℕ
+operand_text (Slot k) = codes "s" ++ decimal k
+operand_text (Const c) = codes "#" ++ signed_decimal c
+
+-- an instruction: its word, its slot, and its word of memory or as many operands as the operation takes
+abbrev pub line_of_instr : Instr → List ℕ
+line_of_instr (Load slot word) = line (codes "load") (decimal slot ∷ decimal word ∷ [])
+line_of_instr (Store slot word) = line (codes "store") (decimal slot ∷ decimal word ∷ [])
+line_of_instr (Apply op slot args) = line (op_word op) (decimal slot ∷ map operand_text (take (arity_of op) args))
+
+-- an input: its label
+abbrev pub line_of_input : List ℕ → List ℕ
+line_of_input label = line (codes "in") (label ∷ [])
+
+-- an output: its label and its word
+abbrev pub line_of_output : OutWord → List ℕ
+line_of_output o = line (codes "out") (o.label ∷ decimal o.word ∷ [])
+
+-- the lines of a code: the numbers of slots and words, the inputs, the outputs, the instructions, and `end`
+abbrev pub lines_of_code : CodeParts → List (List ℕ)
+lines_of_code c =
+    line (codes "slots") (decimal c.slots ∷ [])
+    ∷ line (codes "words") (decimal c.words ∷ [])
+    ∷ (map line_of_input c.inputs ++ (map line_of_output c.outputs ++ (map line_of_instr c.instructions ++ codes "end" ∷ [])))
+
+-- the text of a code
+abbrev pub code_text : CodeParts → List ℕ
+code_text c = ended (lines_of_code c)

@@ -1,0 +1,118 @@
+-- What `plan` answers: the numbers that it prints, the verdict and the code, and when they answer a kernel, a number of slots and a
+-- budget of positions. This is the promise of the program for a kernel that it accepts.
+use Rattle.std.specs.Prelude.{◌≡◌, ℕ, ℤ, ◌≤◌, ◌<◌, ◌↔◌, ◌==◌, Bool, true, false, List, ◌++◌, length, map, Option, Some, Ok}
+use Rattle.comp_graph.specs.Dags.{degree}
+use Rattle.comp_graph.specs.Graphs.{GraphParts, dag_of}
+use Rattle.comp_graph.specs.Games.{GameParts, game_on}
+use Rattle.pebble_rules.specs.declared.moves.Move.{Move}
+use Rattle.pebble_rules.specs.Rules.{start, IsComplete, cost as moves_cost}
+use Rattle.scratch_machine.specs.declared.code.OutWord.{OutWord}
+use Rattle.scratch_machine.specs.Codes.{CodeParts, IsCode}
+use Rattle.scratch_machine.specs.Machines.{Ending, run, transfers}
+use Rattle.scratch_machine.specs.CodePlays.{CodePlays}
+use Rattle.pebble_cli.specs.declared.texts.report.Facts.{Facts}
+use Rattle.pebble_cli.specs.SimpleKernels.{KernelParts}
+use Rattle.pebble_cli.specs.SimpleGraphs.{IsSimple, input_names}
+use Rattle.pebble_cli.specs.SimpleMeaning.{source_outputs, output_names}
+use Rattle.pebble_cli.specs.PlanCode.{plain_code, plain_total, bound_of}
+use Rattle.pebble_cli.specs.ReportText.{report_text}
+use Rattle.pebble_cli.specs.CodeText.{code_text}
+use Rattle.pebble_cli.specs.TableBytes.{empty_table_bytes}
+
+-- the printed numbers: the first plan's cost, the cost of the code and the lower bound, all in transfers, and the number of expanded
+-- positions; whether the verdict is Optimal; and the code
+pub record Plan : Type 0 where
+  pub first : ℕ
+  pub cost : ℕ
+  pub bound : ℕ
+  pub expanded : ℕ
+  pub optimal : Bool
+  pub code : CodeParts
+
+-- a graph with this many slots
+abbrev pub game_parts : GraphParts → ℕ → GameParts
+game_parts graph slots = record { graph = graph; slots = slots }
+
+-- On these values of the inputs the source has outputs, and the run of the code meets no empty slot or word, gives the same outputs,
+-- and makes this many loads and stores.
+pub record RunsRight (kernel : KernelParts) (code : CodeParts) (count : ℕ) (values : List ℤ) : Type 0 where
+  pub outputs : List ℤ
+  pub source : source_outputs kernel values ≡ Some outputs
+  pub ending : Ending
+  pub runs : run code values ≡ Ok ending
+  pub same : ending.outputs ≡ outputs
+  pub counted : transfers ending ≡ count
+
+-- there is a complete pebbling of this cost that the code plays, by the rules of 1981
+pub record PlaysPebbling (graph : GraphParts) (slots : ℕ) (code : CodeParts) (count : ℕ) : Type 0 where
+  pub moves : List Move
+  pub complete : IsComplete (game_on graph slots) (start (game_on graph slots)) moves
+  pub costs : moves_cost (game_on graph slots) moves ≡ count
+  pub plays : CodePlays graph code moves
+
+-- The plan answers a kernel with this graph, with this many slots and this budget of positions.
+pub record IsAnswer (kernel : KernelParts) (graph : GraphParts) (slots budget : ℕ) (plan : Plan) : Type 0 where
+  -- the first plan is the plain plan, and the answered plan is the first one
+  pub first : plan.first ≡ plain_total (game_parts graph slots)
+  pub cost : plan.cost ≡ plan.first
+  pub code : plan.code ≡ plain_code (game_parts graph slots)
+  -- the bound counts the outputs that are no inputs and the inputs that a live vertex reads; no position is expanded
+  pub bound : plan.bound ≡ bound_of (game_parts graph slots)
+  pub expanded : plan.expanded ≡ 0
+  -- Optimal exactly where the bound is the cost; else as many positions as the budget were expanded, and the bound is below the cost
+  pub is_optimal : (plan.optimal ≡ true) ↔ (plan.bound ≡ plan.cost)
+  pub is_open : (plan.optimal ≡ false) ↔ ((plan.expanded ≡ budget) × (plan.bound < plan.cost))
+  -- the code has these slots, names no slot or word that it has not, and has the kernel's inputs and outputs in order of declaration
+  pub code_slots : plan.code.slots ≡ slots
+  pub code_bounds : IsCode plan.code
+  pub code_inputs : plan.code.inputs ≡ input_names kernel.decls
+  pub code_outputs : map (λ (o : OutWord). o.label) plan.code.outputs ≡ output_names kernel.decls
+  -- the code is right on every list of as many values as the kernel has inputs, with exactly as many loads and stores as the cost
+  pub right : (values : List ℤ) → length values ≡ length (input_names kernel.decls) → RunsRight kernel plan.code plan.cost values
+  -- the code plays a complete pebbling of its cost
+  pub played : PlaysPebbling graph slots plan.code plan.cost
+  -- no complete pebbling costs less than the bound, whatever it computes again, drops or moves in vain
+  pub lowest : (moves : List Move) → IsComplete (game_on graph slots) (start (game_on graph slots)) moves → plan.bound ≤ moves_cost (game_on graph slots) moves
+
+-- the answer for now: the plain plan, with no position expanded
+abbrev pub plain_plan : GameParts → Plan
+plain_plan game = record {
+  first = plain_total game;
+  cost = plain_total game;
+  bound = bound_of game;
+  expanded = 0;
+  optimal = bound_of game == plain_total game;
+  code = plain_code game;
+}
+
+-- the values of the report's lines
+abbrev pub facts_of : GraphParts → ℕ → ℕ → Plan → Facts
+facts_of graph slots budget plan = record {
+  vertices = length graph.nodes;
+  inputs = length graph.names;
+  degree = degree (dag_of graph);
+  slots = slots;
+  first = plan.first;
+  cost = plan.cost;
+  bound = plan.bound;
+  expanded = plan.expanded;
+  budget = budget;
+  optimal = plan.optimal;
+}
+
+-- the report and then the code
+abbrev pub plan_text : List ℕ → GraphParts → ℕ → ℕ → Plan → List ℕ
+plan_text title graph slots budget plan = report_text title (facts_of graph slots budget plan) ++ code_text plan.code
+
+-- The text is a simple kernel's with more slots than the degree of its graph, a plan with this verdict answers it, the report and the
+-- code of that plan are printed, and its table is written: the graph's number of vertices, the slots, the bound and no rows.
+pub record IsPlanned (slots budget : ℕ) (text : List ℕ) (optimal : Bool) (printed : List ℕ) (table : Option (List ℕ)) : Type 0 where
+  pub kernel : KernelParts
+  pub graph : GraphParts
+  pub simple : IsSimple text kernel graph
+  pub room : degree (dag_of graph) < slots
+  pub plan : Plan
+  pub answer : IsAnswer kernel graph slots budget plan
+  pub verdict : plan.optimal ≡ optimal
+  pub report : printed ≡ plan_text kernel.title graph slots budget plan
+  pub bytes : table ≡ Some (empty_table_bytes (length graph.nodes) slots plan.bound)

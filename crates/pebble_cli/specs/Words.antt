@@ -1,0 +1,55 @@
+-- What the words of a command line spell.
+use Rattle.std.specs.Prelude.{ℕ, ◌≤◌, ◌+◌, ◌-◌, ◌*◌, ◌==◌, ◌&&◌, ◌||◌, not, nat_le, Bool, List, [], ◌∷◌, length, slice_index, slice_index_or, codes, None, Some, if◌then◌else◌}
+use Rattle.std.specs.declared.option.Option.{Option}
+use Rattle.std.specs.Char.{is_ascii_digit}
+use Rattle.std.specs.List.{list_all}
+use Rattle.std.specs.Str.{bytes_eq}
+use Rattle.pebble_cli.specs.declared.words.Command.{Command}
+use Rattle.pebble_cli.specs.declared.words.Command.TheVariants.{Plan}
+
+-- the number that digits spell, after the digits so far
+abbrev pub digits_after : ℕ → List ℕ → ℕ
+digits_after n [] = n
+digits_after n (c ∷ cs) = digits_after (10 * n + (c - 48)) cs
+
+-- decimal digits alone
+abbrev pub are_digits : List ℕ → Bool
+are_digits word = list_all is_ascii_digit word
+
+-- digits with no zero in front, but for the word 0
+abbrev pub is_plain : List ℕ → Bool
+is_plain word = not (length word == 0) && are_digits word && ((length word == 1) || not (slice_index word 0 == 48))
+
+-- the number from low to high that a word spells in plain decimal
+abbrev pub number : ℕ → ℕ → List ℕ → Option ℕ
+number low high word = if is_plain word && nat_le low (digits_after 0 word) && nat_le (digits_after 0 word) high then Some (digits_after 0 word) else None
+
+-- the plan, where there are slots, a budget, and a table's name that is not empty
+abbrev pub plan_command : Option ℕ → List ℕ → Option ℕ → Option Command
+plan_command (Some slots) (c ∷ table) (Some budget) = Some (Plan slots budget)
+plan_command _ _ _ = None
+
+-- the command that the words spell: `plan S TABLE BUDGET` with 1 to 64 slots and the budget 0 (this project's convention)
+abbrev pub command : List (List ℕ) → Option Command
+command (name ∷ slots ∷ table ∷ budget ∷ []) = if bytes_eq name (codes "plan") then plan_command (number 1 64 slots) table (number 0 0 budget) else None
+command _ = None
+
+-- the word at a place, or the empty text
+abbrev pub word_at : ℕ → List (List ℕ) → List ℕ
+word_at place words = slice_index_or words place []
+
+-- one of two words
+abbrev pub is_either : List ℕ → List ℕ → List ℕ → Bool
+is_either word first second = bytes_eq word first || bytes_eq word second
+
+-- the word that names the file, or the empty text (this project's convention)
+abbrev pub file_word : List (List ℕ) → List ℕ
+file_word [] = []
+file_word (name ∷ rest) =
+    if is_either name (codes "plan") (codes "check") then word_at 1 rest
+    else (if is_either name (codes "run") (codes "exec") then word_at 0 rest
+    else (if bytes_eq name (codes "trial") then word_at 2 rest else []))
+
+-- the numbers of a command are in range
+abbrev pub IsInLimits : Command → Type 0
+IsInLimits (Plan slots budget) = (1 ≤ slots) × (slots ≤ 64) × (budget ≤ 0)

@@ -1,0 +1,151 @@
+//! The answers, each with what it says of the input.
+ghost use Rattle.std.specs.Prelude.{◌≡◌, ◌++◌, ◌≤◌, ◌<◌, ◌⊎◌, ℕ, List, IfOk, Some, None};
+ghost use Rattle.comp_graph.specs.Games.{IsGame};
+ghost use Rattle.desk_io.specs.Known.{file_items};
+ghost use Rattle.pebble_cli.specs.SimpleKernels.{KernelParts};
+ghost use Rattle.pebble_cli.specs.SimpleGraphs.{IsSimple};
+ghost use Rattle.pebble_cli.specs.Answers.{IsUsage, IsFaulty, IsNotSimple, Plans, Refuses, too_small_text, verdict_status};
+ghost use Rattle.pebble_cli.specs.PlanAnswers.{facts_of, plain_plan};
+ghost use Rattle.pebble_cli.specs.PlanCode as spec;
+ghost use Rattle.pebble_cli.specs.ReportText.{report_text};
+ghost use Rattle.pebble_cli.specs.CodeText.{code_text};
+
+use super::Answer;
+use crate::plan::code::plain_code;
+use crate::plan::cost::{first_bound, plain_cost};
+use crate::simple::text::simple_graph;
+use crate::status::Status;
+use crate::table::empty_table;
+use crate::texts::code::write_code;
+use crate::texts::report::{Facts, report};
+use comp_graph::{Game, Graph, NoMemory, TooSmall};
+use std::alloc::{AllocError, Global};
+
+const USAGE: &str =
+    "usage: pebble plan S TABLE [BUDGET], check S TABLE, run VALUES, exec VALUES, graph, trial N S TABLE\n";
+
+/// The answer to words that spell no command.
+pub fn usage(alloc: Global) -> Result<Answer, AllocError>
+    ensures status { IfOk result (λ answer. answer.status ≡ Status.Usage) }
+    ensures text { IfOk result (λ answer. IsUsage answer.text.items (file_items answer.table)) }
+{
+    Ok(Answer {
+        status: Status::Usage,
+        text: Vec::from_slice(alloc, USAGE.as_bytes())?,
+        table: None,
+    })
+}
+
+/// The answer to a text that is not simple.
+pub fn not_simple(alloc: Global) -> Result<Answer, AllocError>
+    ensures { IfOk result (λ answer. (slots : ℕ) (text : List ℕ) → IsNotSimple text → Refuses slots text answer.status answer.text.items (file_items answer.table)) }
+{
+    Ok(Answer {
+        status: Status::Kernel,
+        text: Vec::from_slice(alloc, b"kernel fault K0 at 0\n")?,
+        table: None,
+    })
+}
+
+/// The answer where more slots are needed.
+fn too_small(alloc: Global, needs: u16) -> Result<Answer, AllocError>
+    ensures status { IfOk result (λ answer. answer.status ≡ Status.TooSmall) }
+    ensures text { IfOk result (λ answer. answer.text.items ≡ too_small_text needs) }
+    ensures none { IfOk result (λ answer. file_items answer.table ≡ None) }
+{
+    let line = format!(in alloc; "too small needs {needs}\n")?;
+    Ok(Answer {
+        status: Status::TooSmall,
+        text: line.into_bytes(),
+        table: None,
+    })
+}
+
+// The status of a verdict.
+fn status_of(optimal: bool) -> Status
+    ensures { result ≡ verdict_status optimal }
+{
+    if optimal {
+        Status::Optimal
+    } else {
+        Status::Open
+    }
+}
+
+// The values of the report's lines for the plain plan, with no position expanded.
+fn facts_of_plan(game: &Game, budget: u32) -> Facts
+    ensures value { result ≡ facts_of game.now.graph game.now.slots budget (plain_plan game.now) }
+    ensures valid { IsGame game.now }
+{
+    let graph = game.graph();
+    let cost = plain_cost(game);
+    let bound = first_bound(game);
+    Facts {
+        vertices: graph.len(),
+        inputs: graph.inputs(),
+        degree: graph.degree(),
+        slots: game.slots(),
+        first: cost,
+        cost,
+        bound,
+        expanded: 0,
+        budget,
+        optimal: bound == cost,
+    }
+}
+
+// The report and the code of the plain plan.
+fn plan_text(alloc: Global, game: &Game, facts: &Facts) -> Result<Vec<u8>, NoMemory>
+    ensures { IfOk result (λ text. text.items ≡ report_text game.now.graph.title facts.now ++ code_text (spec.plain_code game.now)) }
+{
+    let code = plain_code(alloc, game)?;
+    let code_text = write_code(alloc, &code)?;
+    let mut text = report(alloc, game.graph().title(), facts)?;
+    text.extend_from_slice(&code_text)?;
+    Ok(text)
+}
+
+/// The answer to a kernel with enough slots: the verdict, the report and the code, and the table.
+fn planned(alloc: Global, game: &Game, budget: u32) -> Result<Answer, NoMemory>
+    requires { budget ≡ 0 }
+    ensures { IfOk result (λ answer. (text : List ℕ) (kernel : KernelParts) → IsSimple text kernel game.now.graph
+        → Plans game.now.slots budget text answer.status answer.text.items (file_items answer.table)) }
+{
+    let facts = facts_of_plan(game, budget);
+    let text = plan_text(alloc, game, &facts)?;
+    let table = empty_table(alloc, facts.vertices, facts.slots, facts.bound)?;
+    Ok(Answer {
+        status: status_of(facts.optimal),
+        text,
+        table: Some(table),
+    })
+}
+
+// The answer to a kernel by its graph: that more slots are needed, or a plan.
+fn graph_answer(alloc: Global, slots: u16, budget: u32, graph: Graph) -> Result<Answer, NoMemory>
+    requires some { 0 < slots }
+    requires few { slots ≤ 64 }
+    requires no_budget { budget ≡ 0 }
+    ensures { IfOk result (λ answer. (text : List ℕ) (kernel : KernelParts) → IsSimple text kernel graph
+        → Refuses slots text answer.status answer.text.items (file_items answer.table)
+        ⊎ Plans slots budget text answer.status answer.text.items (file_items answer.table)) }
+{
+    match Game::new(graph, slots) {
+        Ok(game) => Ok(planned(alloc, &game, budget)?),
+        Err(TooSmall { needs, graph: _ }) => Ok(too_small(alloc, needs)?),
+    }
+}
+
+/// The answer of `plan` to a text: that it is not simple, that more slots are needed, or a plan.
+pub fn plan_answer(alloc: Global, slots: u16, budget: u32, text: &[u8]) -> Result<Answer, NoMemory>
+    requires some { 0 < slots }
+    requires few { slots ≤ 64 }
+    requires no_budget { budget ≡ 0 }
+    ensures { IfOk result (λ answer. Refuses slots text.now answer.status answer.text.items (file_items answer.table)
+        ⊎ Plans slots budget text.now answer.status answer.text.items (file_items answer.table)) }
+{
+    match simple_graph(alloc, text)? {
+        Some(graph) => Ok(graph_answer(alloc, slots, budget, graph)?),
+        None => Ok(not_simple(alloc)?),
+    }
+}

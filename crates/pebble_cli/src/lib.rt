@@ -1,0 +1,16 @@
+//! All that the program does, over any desk: the words, the kernel, the plan, the texts and the top call.
+#![tactic(auto)]
+
+mod answer;
+mod deliver;
+mod plan;
+mod simple;
+mod status;
+mod table;
+mod texts;
+mod top;
+mod words;
+
+pub use status::Status;
+pub use top::pebble;
+pub use words::read::file_word;

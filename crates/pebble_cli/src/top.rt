@@ -1,0 +1,153 @@
+//! The top call.
+ghost use Rattle.std.specs.Prelude.{◌≡◌, ◌≢◌, ◌+◌, ◌≤◌, ◌<◌, ◌⊎◌, ℕ, List, map, string_bytes, IfOk, IfErr, Some, None};
+ghost use Rattle.std.specs.declared.option.Option.{Option};
+ghost use Rattle.std.specs.Io.KnownBytes.{append_known};
+ghost use Rattle.comp_graph.specs.Dags.{degree};
+ghost use Rattle.comp_graph.specs.Graphs.{GraphParts, dag_of};
+ghost use Rattle.desk_io.specs.declared.desk.Kind.{Kind};
+ghost use Rattle.desk_io.specs.Counts.{Rose};
+ghost use Rattle.desk_io.specs.Known.{Tells, file_items, file_of};
+ghost use Rattle.pebble_cli.specs.declared.status.Status.{Status};
+ghost use Rattle.pebble_cli.specs.declared.words.Command.TheVariants.{Plan};
+ghost use Rattle.pebble_cli.specs.Answers.{Answers, Plans, ReadCause, SameWriteFaults, IsNotSimple, IsYielded, not_simple_text, too_small_text};
+ghost use Rattle.pebble_cli.specs.Deliver.{Delivered, CutShort};
+ghost use Rattle.pebble_cli.specs.SimpleGraphs.{IsSimple};
+ghost use Rattle.pebble_cli.specs.SimpleKernels.{KernelParts};
+ghost use Rattle.pebble_cli.specs.Words.{command, file_word, IsInLimits};
+
+use crate::answer::{Answer, make};
+use crate::deliver::deliver;
+use crate::status::Status;
+use crate::words::{Command, read};
+use comp_graph::NoMemory;
+use desk_io::{Desk, ReadEnd, WriteFault, read_input};
+use std::alloc::Global;
+
+/// The most bytes of a kernel.
+const KERNEL_LIMIT: u32 = 65536;
+
+// The answer of a command to its kernel.
+fn command_answer(alloc: Global, command: Command, text: &[u8]) -> Result<Answer, NoMemory>
+    requires { IsInLimits command }
+    ensures { IfOk result (λ answer. Answers (Some command) text.now answer.status answer.text.items (file_items answer.table)) }
+{
+    match command {
+        Command::Plan { slots, budget } => make::plan_answer(alloc, slots, budget, text),
+    }
+}
+
+// The answer of a command to a kernel of too many bytes.
+fn too_long_answer(alloc: Global, command: Command) -> Result<Answer, NoMemory>
+    ensures { IfOk result (λ answer. (text : List ℕ) → IsNotSimple text → Answers (Some command) text answer.status answer.text.items (file_items answer.table)) }
+{
+    match command {
+        Command::Plan { .. } => Ok(make::not_simple(alloc)?),
+    }
+}
+
+// Reads the kernel, and makes the answer. Nothing is written.
+fn answer_kernel<D: Desk>(alloc: Global, desk: &mut D, command: Command) -> Result<Answer, Status>
+    requires { IsInLimits command }
+    ensures answers { IfOk result (λ answer. (text : List ℕ) × Tells (D.input desk.old) text
+        × Answers (Some command) text answer.status answer.text.items (file_items answer.table)) }
+    ensures refusal { IfErr result (λ status. (status ≡ Status.NoMemory)
+        ⊎ ((status ≡ Status.ReadFault) × ReadCause (Some command) (D.faults desk.old) (D.faults desk.new))) }
+    ensures write_faults { SameWriteFaults (D.faults desk.old) (D.faults desk.new) }
+    ensures same_name { D.name desk.new ≡ D.name desk.old }
+    ensures same_file { D.file desk.new ≡ D.file desk.old }
+    ensures same_output { D.output desk.new ≡ D.output desk.old }
+{
+    match read_input(alloc, desk, KERNEL_LIMIT) {
+        Ok(text) => Ok(command_answer(alloc, command, &text)?),
+        Err(ReadEnd::TooLong) => Ok(too_long_answer(alloc, command)?),
+        Err(ReadEnd::ReadFault) => Err(Status::ReadFault),
+        Err(ReadEnd::NoMemory) => Err(Status::NoMemory),
+    }
+}
+
+// Reads the words and the input, and makes the answer. Nothing is written.
+fn prepare<D: Desk>(alloc: Global, words: &[String], desk: &mut D) -> Result<Answer, Status>
+    ensures answers { IfOk result (λ answer. (text : List ℕ) × Tells (D.input desk.old) text
+        × Answers (command (map string_bytes words.now)) text answer.status answer.text.items (file_items answer.table)) }
+    ensures refusal { IfErr result (λ status. (status ≡ Status.NoMemory)
+        ⊎ ((status ≡ Status.ReadFault) × ReadCause (command (map string_bytes words.now)) (D.faults desk.old) (D.faults desk.new))) }
+    ensures write_faults { SameWriteFaults (D.faults desk.old) (D.faults desk.new) }
+    ensures same_name { D.name desk.new ≡ D.name desk.old }
+    ensures same_file { D.file desk.new ≡ D.file desk.old }
+    ensures same_output { D.output desk.new ≡ D.output desk.old }
+{
+    match read::command(words) {
+        None => Ok(make::usage(alloc)?),
+        Some(command) => answer_kernel(alloc, desk, command),
+    }
+}
+
+/// Does all that the program does: the words are those behind the program's name, and the desk's file is the one that they name.
+///
+/// First the words and the input are read and the whole answer is made, which takes all memory; then the table, if there is one, is
+/// written to the file, and last the text to the output. What is said of bytes holds where the desk tells them.
+pub fn pebble<D: Desk>(alloc: Global, words: &[String], desk: &mut D) -> Status
+    requires { D.name desk.old ≡ file_word (map string_bytes words.now) }
+
+    // The whole answer was delivered: the text that was read, and what answers it, printed and written whole.
+    ensures said { result ≢ Status.ReadFault → result ≢ Status.WriteFault → result ≢ Status.NoMemory →
+        (text : List ℕ) × (printed : List ℕ) × (table : Option (List ℕ)) × Tells (D.input desk.old) text
+        × Answers (command (map string_bytes words.now)) text result printed table
+        × Delivered D.file D.output desk.old desk.new printed table }
+
+    // A write failed: there was an answer with a status of its own, and a prefix of it was written.
+    ensures write_fault { result ≡ Status.WriteFault →
+        (text : List ℕ) × (printed : List ℕ) × (table : Option (List ℕ)) × (status : Status) × Tells (D.input desk.old) text
+        × Answers (command (map string_bytes words.now)) text status printed table
+        × CutShort D.file D.output D.faults desk.old desk.new printed table }
+
+    // A take failed that the command makes.
+    ensures read_fault { result ≡ Status.ReadFault → ReadCause (command (map string_bytes words.now)) (D.faults desk.old) (D.faults desk.new) }
+
+    // Then, and where memory was not found, nothing was written at all.
+    ensures silent { (result ≡ Status.ReadFault) ⊎ (result ≡ Status.NoMemory) →
+        (D.file desk.new ≡ D.file desk.old) × (D.output desk.new ≡ D.output desk.old) }
+
+    // The plan: exactly one report and code text was printed, and the file holds exactly one table.
+    ensures headline { (result ≡ Status.Optimal) ⊎ (result ≡ Status.Open) →
+        (slots : ℕ) × (budget : ℕ) × (text : List ℕ) × (printed : List ℕ) × (table : List ℕ)
+        × (command (map string_bytes words.now) ≡ Some (Plan slots budget)) × Tells (D.input desk.old) text
+        × Plans slots budget text result printed (Some table)
+        × (D.output desk.new ≡ append_known (D.output desk.old) printed) × (D.file desk.new ≡ file_of (D.file desk.old) table) }
+
+    // Usage comes exactly where the words spell no command.
+    ensures usage_only { result ≡ Status.Usage → command (map string_bytes words.now) ≡ None }
+    ensures usage { command (map string_bytes words.now) ≡ None → (result ≡ Status.Usage) ⊎ ((result ≡ Status.WriteFault) ⊎ (result ≡ Status.NoMemory)) }
+
+    // Kernel comes exactly where the input is not simple.
+    ensures kernel_only { result ≡ Status.Kernel → (text : List ℕ) × Tells (D.input desk.old) text × IsNotSimple text
+        × (D.output desk.new ≡ append_known (D.output desk.old) not_simple_text) }
+    ensures kernel { (slots budget : ℕ) (text : List ℕ) → command (map string_bytes words.now) ≡ Some (Plan slots budget) → D.input desk.old ≡ Some text
+        → IsNotSimple text → IsYielded result Status.Kernel }
+
+    // TooSmall comes exactly where there are no more slots than the degree.
+    ensures too_small_only { result ≡ Status.TooSmall → (slots : ℕ) × (budget : ℕ) × (text : List ℕ) × (kernel : KernelParts) × (graph : GraphParts)
+        × (command (map string_bytes words.now) ≡ Some (Plan slots budget)) × Tells (D.input desk.old) text × IsSimple text kernel graph × (slots ≤ degree (dag_of graph))
+        × (D.output desk.new ≡ append_known (D.output desk.old) (too_small_text (degree (dag_of graph) + 1))) }
+    ensures too_small { (slots budget : ℕ) (text : List ℕ) (kernel : KernelParts) (graph : GraphParts) → command (map string_bytes words.now) ≡ Some (Plan slots budget)
+        → D.input desk.old ≡ Some text → IsSimple text kernel graph → slots ≤ degree (dag_of graph) → IsYielded result Status.TooSmall }
+
+    // Words that spell `plan`, a simple kernel, enough slots and no fault of the desk give a plan, or want of memory.
+    ensures complete { (slots budget : ℕ) (text : List ℕ) (kernel : KernelParts) (graph : GraphParts) → command (map string_bytes words.now) ≡ Some (Plan slots budget)
+        → D.input desk.old ≡ Some text → IsSimple text kernel graph → degree (dag_of graph) < slots
+        → ((kind : Kind) → Rose (D.faults desk.old kind) (D.faults desk.new kind) → ⊥)
+        → (result ≡ Status.Optimal) ⊎ ((result ≡ Status.Open) ⊎ (result ≡ Status.NoMemory)) }
+
+    // The file changes with a plan alone, or where a write of one fails.
+    ensures file_kept { result ≢ Status.Optimal → result ≢ Status.Open → result ≢ Status.WriteFault → D.file desk.new ≡ D.file desk.old }
+    ensures same_name { D.name desk.new ≡ D.name desk.old }
+{
+    let answer = match prepare(alloc, words, desk) {
+        Ok(answer) => answer,
+        Err(status) => return status,
+    };
+    match deliver(desk, &answer) {
+        Ok(()) => answer.status,
+        Err(WriteFault) => Status::WriteFault,
+    }
+}

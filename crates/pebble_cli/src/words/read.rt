@@ -1,0 +1,102 @@
+//! What the words of a command line spell.
+ghost use Rattle.std.specs.Prelude.{◌≡◌, ◌≤◌, ◌^◌, ◌<◌, true, length, SomeIff, IfSome, map, string_bytes};
+ghost use Rattle.pebble_cli.specs.Words.{are_digits, is_plain, digits_after, number, command, file_word, word_at, IsInLimits};
+
+use super::Command;
+
+/// The greatest number of slots.
+const MOST_SLOTS: u32 = 64;
+
+/// The greatest budget.
+const MOST_BUDGET: u32 = 0;
+
+// Whether each byte is an ASCII digit.
+fn are_digits(bytes: &[u8]) -> bool
+    ensures { result ≡ are_digits bytes.now }
+{
+    bytes.iter().all(|byte| byte.is_ascii_digit())
+}
+
+// Whether the word is digits with no zero in front, but for the word 0.
+fn is_plain(word: &str) -> bool
+    ensures { result ≡ is_plain word.now }
+{
+    let bytes = word.as_bytes();
+    if bytes.is_empty() || !are_digits(bytes) {
+        return false;
+    }
+    bytes.len() == 1 || bytes[0] != b'0'
+}
+
+// The number that digits spell, where it is below 2^32.
+fn value(word: &str) -> Option<u32>
+    requires digits { are_digits word.now ≡ true }
+    requires some { 0 < length word.now }
+    ensures { SomeIff result (digits_after 0 word.now < 2 ^ 32) (digits_after 0 word.now) }
+{
+    word.parse::<u32>().ok()
+}
+
+// The number from low to high that the word spells in plain decimal.
+fn number(low: u32, high: u32, word: &str) -> Option<u32>
+    ensures value { result ≡ number low high word.now }
+    ensures limits { IfSome result (λ n. (low ≤ n) × (n ≤ high)) }
+{
+    if !is_plain(word) {
+        return None;
+    }
+    let value = value(word)?;
+    if low <= value && value <= high {
+        Some(value)
+    } else {
+        None
+    }
+}
+
+/// The command that the words spell: `plan S TABLE 0`, with S from 1 to 64 in plain decimal and TABLE any word that is not empty. All
+/// other words spell none.
+pub fn command(words: &[String]) -> Option<Command>
+    ensures value { result ≡ command (map string_bytes words.now) }
+    ensures limits { IfSome result IsInLimits }
+{
+    match words {
+        [name, slots, table, budget] => {
+            if name.as_str() != "plan" || table.is_empty() {
+                return None;
+            }
+            let slots = number(1, MOST_SLOTS, slots.as_str())?;
+            let budget = number(0, MOST_BUDGET, budget.as_str())?;
+            Some(Command::Plan {
+                slots: slots as u16,
+                budget,
+            })
+        }
+        _ => None,
+    }
+}
+
+/// The word that names the file: the third after `plan` or `check`, the second after `run` or `exec`, the fourth after `trial`. Where
+/// there is no such word, the empty text. It takes no memory.
+pub fn file_word(words: &[String]) -> &str
+    ensures { result.now ≡ file_word (map string_bytes words.now) }
+{
+    let [name, rest @ ..] = words else {
+        return "";
+    };
+    match name.as_str() {
+        "plan" | "check" => word_at(rest, 1),
+        "run" | "exec" => word_at(rest, 0),
+        "trial" => word_at(rest, 2),
+        _ => "",
+    }
+}
+
+// The word at the place, or the empty text where there is none.
+fn word_at(words: &[String], place: usize) -> &str
+    ensures { result.now ≡ word_at place (map string_bytes words.now) }
+{
+    match words.get(place) {
+        Some(word) => word.as_str(),
+        None => "",
+    }
+}

@@ -1,0 +1,60 @@
+use super::Command;
+use super::read::{command, file_word};
+use std::alloc::{AllocError, Global};
+use std::test::Fail;
+
+// The words of a line, which single spaces part.
+fn words(alloc: Global, line: &str) -> Result<Vec<String>, AllocError> {
+    let mut words = Vec::new(alloc);
+    for word in line.split(' ') {
+        words.push(String::from_str(alloc, word)?)?;
+    }
+    Ok(words)
+}
+
+#[test]
+fn commands(rt: HostRuntime) -> Result<(), Fail> {
+    let plan = words(rt.alloc(), "plan 2 t 0")?;
+    let asked = Command::Plan {
+        slots: 2,
+        budget: 0,
+    };
+    assert_eq!(rt; command(&plan), Some(asked));
+    let others = [
+        "plan 0 t 0",
+        "plan 02 t 0",
+        "plan 65 t 0",
+        "plan +2 t 0",
+        "plan 2 t 1",
+        "plan 2 t",
+        "plan 2  0",
+        "check 2 t 0",
+        "",
+    ];
+    for line in others {
+        let other = words(rt.alloc(), line)?;
+        assert_eq!(rt; command(&other), None);
+    }
+    assert_eq!(rt; command(&[]), None);
+    Ok(())
+}
+
+#[test]
+fn files(rt: HostRuntime) -> Result<(), Fail> {
+    let cases = [
+        ("plan 2 t 0", "t"),
+        ("check 2 t", "t"),
+        ("run v", "v"),
+        ("exec v more", "v"),
+        ("trial 3 2 t", "t"),
+        ("graph t t t", ""),
+        ("plan 2", ""),
+        ("", ""),
+    ];
+    for (line, file) in cases {
+        let given = words(rt.alloc(), line)?;
+        assert_eq!(rt; file_word(&given), file);
+    }
+    assert_eq!(rt; file_word(&[]), "");
+    Ok(())
+}

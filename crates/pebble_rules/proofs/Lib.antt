@@ -1,0 +1,3 @@
+-- The lemmas behind the laws.
+pub mod Possible
+pub mod FirstBound

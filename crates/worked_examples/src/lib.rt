@@ -1,0 +1,7 @@
+//! Worked examples of the whole program, over a desk in memory. All of this crate is tests.
+#![tactic(auto)]
+
+#[cfg(test)]
+mod program;
+#[cfg(test)]
+mod tests;
