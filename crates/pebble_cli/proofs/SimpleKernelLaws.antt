@@ -1,8 +1,6 @@
 -- A list of tokens is that of one simple kernel at most.
-use Rattle.std.proofs.Common.{◌≡◌, ℕ, List, [], ◌∷◌, ◌++◌, Option, Some, None, refl, sym, ap, ◌∙◌, subst, append_assoc, append-nil}
+use Rattle.std.proofs.Common.{◌≡◌, ℕ, List, [], ◌∷◌, ◌++◌, Option, Some, None, refl, sym, ap, ◌∙◌, append_assoc, append-nil}
 use Rattle.std.specs.List.{flat_map}
-use Rattle.pebble_cli.specs.declared.simple.token.DeclKind.{DeclKind}
-use Rattle.pebble_cli.specs.declared.simple.token.Operator.{Operator}
 use Rattle.pebble_cli.specs.declared.simple.token.Mark.TheVariants.{Kernel, Open, Close, Semicolon}
 use Rattle.pebble_cli.specs.declared.simple.token.Token.{Token}
 use Rattle.pebble_cli.specs.declared.simple.token.Token.TheVariants as token

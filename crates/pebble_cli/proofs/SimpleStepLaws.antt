@@ -1,5 +1,5 @@
 -- How an error of one step is the error of all that are left.
-use Rattle.std.proofs.Common.{◌≡◌, ℕ, suc, ◌<◌, List, ◌∷◌, length, drop, get_or, Option, Some, None, Result, Ok, Err, IsErrAnd, option_and_then, Bool, true, refl, sym, ap, ◌∙◌, subst}
+use Rattle.std.proofs.Common.{◌≡◌, ℕ, suc, ◌<◌, List, ◌∷◌, length, drop, get_or, Option, Some, None, Result, Ok, Err, IsErrAnd, option_and_then, true, refl, sym, ap, ◌∙◌}
 use Rattle.std.proofs.Math.Seq.{drop-cons}
 use Rattle.comp_graph.specs.declared.node.Operand.{Operand}
 use Rattle.pebble_cli.specs.declared.simple.kernel.Arg.TheVariants.{Name}

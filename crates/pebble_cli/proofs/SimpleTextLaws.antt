@@ -1,5 +1,5 @@
 -- A text is simple in one way, and what the steps of its reading say of that.
-use Rattle.std.proofs.Common.{◌≡◌, ◌≤◌, ℕ, Bool, true, false, List, length, Option, Some, None, Result, Ok, Err, IfOk, MatchOption, refl, sym, ap, ◌∙◌, subst}
+use Rattle.std.proofs.Common.{◌≡◌, ◌≤◌, ℕ, true, false, List, length, Option, Some, None, Result, Ok, Err, IfOk, MatchOption, refl, sym, ap, ◌∙◌, subst}
 use Rattle.comp_graph.specs.Graphs.{GraphParts, IsGraph}
 use Rattle.pebble_cli.specs.declared.simple.token.Token.{Token}
 use Rattle.pebble_cli.specs.SimpleTokens.{Spells}

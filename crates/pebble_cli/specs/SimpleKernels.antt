@@ -40,6 +40,12 @@ abbrev pub tokens_of : KernelParts → List Token
 tokens_of kernel =
     Mark Kernel ∷ token.Name kernel.title ∷ Mark Open ∷ flat_map decl_tokens kernel.decls ++ (flat_map stmt_tokens kernel.stmts ++ Mark Close ∷ [])
 
+-- ---- where no part of a kernel begins
+
+-- none of these tokens is next
+abbrev pub NoneNext : {A : Type 0} → (A → Token) → List Token → Type 0
+NoneNext {A} token_at tokens = (a : A) (rest : List Token) → tokens ≡ token_at a ∷ rest → ⊥
+
 -- no declaration begins here
 abbrev pub NoDecl : List Token → Type 0
 NoDecl tokens = (decl : Decl) (rest : List Token) → tokens ≡ decl_tokens decl ++ rest → ⊥

@@ -2,6 +2,7 @@
 use crate::program::{run, words_of};
 use desk_io::{Fail, Kind};
 use pebble_cli::Status;
+use std::alloc::{AllocError, Global};
 use std::test::Fail as TestFail;
 
 /// The kernel y = x + 1.
@@ -151,5 +152,40 @@ fn desks_that_fail(rt: HostRuntime) -> Result<(), TestFail> {
     assert_eq!(rt; left.status, Status::Optimal);
     assert_eq!(rt; left.output.as_slice(), P_PRINTED.as_bytes());
     assert_eq!(rt; left.file.as_deref(), Some(P_TABLE.as_slice()));
+    Ok(())
+}
+
+/// A kernel with one input and this many sums, so one vertex more.
+fn sums(alloc: Global, count: u32) -> Result<String, AllocError> {
+    let mut text = String::from_str(alloc, "kernel sums { in x; out y; tmp t; t = x; ")?;
+    for _ in 0..count {
+        text.push_str("t = t + 1; ")?;
+    }
+    text.push_str("y = t; }")?;
+    Ok(text)
+}
+
+/// The kernel y = x + 1 with spaces behind it, up to a length.
+fn padded(alloc: Global, len: usize) -> Result<String, AllocError> {
+    let mut text = String::from_str(alloc, P)?;
+    for _ in P.len()..len {
+        text.push_str(" ")?;
+    }
+    Ok(text)
+}
+
+#[test]
+fn the_limits_of_a_kernel(rt: HostRuntime) -> Result<(), TestFail> {
+    let words = words_of(rt.alloc(), "plan 2 t 0")?;
+    let rows = [
+        (sums(rt.alloc(), 255)?, Status::Open),
+        (sums(rt.alloc(), 256)?, Status::Kernel),
+        (padded(rt.alloc(), 65536)?, Status::Optimal),
+        (padded(rt.alloc(), 65537)?, Status::Kernel),
+    ];
+    for (text, status) in &rows {
+        let left = run(rt.alloc(), &words, text.as_bytes(), 4096, None)?;
+        assert_eq!(rt; left.status, *status, "{} bytes", text.len());
+    }
     Ok(())
 }

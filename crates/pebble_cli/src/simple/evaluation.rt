@@ -1,8 +1,6 @@
 //! The graph of a simple kernel, by evaluation.
-ghost use Rattle.std.specs.Prelude.{◌≡◌, ◌≢◌, ◌≤◌, ◌<◌, ℕ, List, length, [], None, Some, IfOk, OnOk, ◌&&◌, ◌+◌};
+ghost use Rattle.std.specs.Prelude.{◌≡◌, ◌≢◌, length, [], IfOk, OnOk, ◌&&◌, ◌+◌};
 ghost use Rattle.std.specs.List.{list_any};
-ghost use Rattle.comp_graph.specs.Graphs.{GraphParts};
-ghost use Rattle.pebble_cli.specs.SimpleKernels.{KernelParts};
 ghost use Rattle.pebble_cli.specs.SimpleGraphs as spec;
 ghost use Rattle.pebble_cli.specs.SimpleSteps.{Answers, state_of};
 
@@ -226,7 +224,8 @@ impl Evaluation {
         first: Operand,
         operation: &Option<Operation>,
     ) -> Result<Operand, GraphEnd>
-        ensures step { Answers (spec.operated decls.now (state_of self.old) first operation.now) (λ origin. record { origin = origin; log = self.new.log.items }) result }
+        ensures step { Answers (spec.operated decls.now (state_of self.old) first operation.now)
+            (λ origin. record { origin = origin; log = self.new.log.items }) result }
         ensures held { self.new.held ≡ self.old.held }
     {
         match operation {
@@ -273,7 +272,8 @@ impl Evaluation {
 
     /// The vertex of an output's origin. A constant gets an entry of its own.
     fn settle(&mut self, origin: Operand) -> Result<u16, GraphEnd>
-        ensures step { Answers (spec.settled origin self.old.log.items) (λ vertex. record { vertex = vertex; log = self.new.log.items }) result }
+        ensures step { Answers (spec.settled origin self.old.log.items)
+            (λ vertex. record { vertex = vertex; log = self.new.log.items }) result }
         ensures held { self.new.held ≡ self.old.held }
     {
         match origin {

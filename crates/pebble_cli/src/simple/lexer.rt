@@ -1,6 +1,6 @@
 //! The tokens of a text.
 
-ghost use Rattle.std.specs.Prelude.{◌*◌, ◌∷◌, ◌+◌, ◌++◌, ◌^◌, [], pos, IfOk, OnOk, IfSome, IfNone, MatchOption, option_map, Some, None, IsTrue, ◌≡◌, ◌≤◌, ◌<◌, ℕ, List, length, take, drop, true, false};
+ghost use Rattle.std.specs.Prelude.{◌∷◌, IfOk, MatchOption, ◌≡◌, ◌≤◌, ◌<◌, ℕ, List, length, take, drop, true};
 ghost use Rattle.std.specs.List.{list_all};
 ghost use Rattle.pebble_cli.specs.SimpleTokens as spec;
 ghost use Rattle.pebble_cli.specs.SimpleTokens.{BeginsWith, Spells, Stops, value};
@@ -170,7 +170,8 @@ fn token_of(alloc: Global, word: &[u8]) -> Result<Option<Token>, NoMemory>
 
 /// The token at the front of a text, and how many bytes it has.
 fn first_token(alloc: Global, text: &[u8]) -> Result<Option<(Token, usize)>, NoMemory>
-    ensures { IfOk result (λ found. MatchOption found ((token : Token) (rest : List ℕ) → BeginsWith text.now token rest → ⊥)
+    ensures { IfOk result (λ found. MatchOption found ((token : Token) (rest : List ℕ)
+        → BeginsWith text.now token rest → ⊥)
         (λ cut. (0 < cut.1) × (cut.1 ≤ length text.now) × BeginsWith text.now cut.0 (drop cut.1 text.now))) }
 {
     let [first, rest @ ..] = text else {

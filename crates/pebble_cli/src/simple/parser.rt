@@ -1,19 +1,13 @@
 //! A simple kernel from its tokens.
 
-ghost use Rattle.std.specs.Prelude.{◌∷◌, ◌++◌, [], IfOk, IfSome, IfNone, MatchOption, Option, None, IsTrue, ◌≡◌, ℕ, List, length};
+ghost use Rattle.std.specs.Prelude.{◌∷◌, ◌++◌, IfOk, IfSome, IfNone, MatchOption, Option, ◌≡◌, List};
 ghost use Rattle.std.specs.Bool.{OnTrue, OnFalse};
 ghost use Rattle.std.specs.List.{flat_map};
-ghost use Rattle.pebble_cli.specs.SimpleKernels as spec;
-ghost use Rattle.pebble_cli.specs.SimpleKernels.{KernelParts, NoDecl, NoStmt, arg_token, decl_tokens, operation_tokens, stmt_tokens, tokens_of};
+ghost use Rattle.pebble_cli.specs.SimpleKernels.{KernelParts, NoDecl, NoneNext, NoStmt, arg_token, decl_tokens, operation_tokens, stmt_tokens, tokens_of};
 ghost use Rattle.pebble_cli.specs.declared.simple.token.Token.{Token};
-ghost use Rattle.pebble_cli.specs.declared.simple.token.DeclKind.{DeclKind};
-ghost use Rattle.pebble_cli.specs.declared.simple.token.Operator.{Operator};
 ghost use Rattle.pebble_cli.specs.declared.simple.token.Token.TheVariants as token;
 ghost use Rattle.pebble_cli.specs.declared.simple.token.Mark.TheVariants.{Semicolon};
-ghost use Rattle.pebble_cli.specs.declared.simple.kernel.Arg.{Arg};
-ghost use Rattle.pebble_cli.specs.declared.simple.kernel.Decl.{Decl};
 ghost use Rattle.pebble_cli.specs.declared.simple.kernel.Operation.{Operation};
-ghost use Rattle.pebble_cli.specs.declared.simple.kernel.Stmt.{Stmt};
 
 use crate::simple::kernel::{Arg, Decl, Operation, SimpleKernel, Stmt};
 use crate::simple::memory::append;
@@ -45,7 +39,7 @@ impl<'a> Cursor<'a> {
     /// Takes the word of a declaration, if it is next.
     fn decl_kind(&mut self) -> Option<DeclKind>
         ensures read { IfSome result (λ kind. self.old.ahead.now ≡ token.Declare kind ∷ self.new.ahead.now) }
-        ensures other { IfNone result ((kind : DeclKind) (rest : List Token) → self.old.ahead.now ≡ token.Declare kind ∷ rest → ⊥) }
+        ensures other { IfNone result (NoneNext token.Declare self.old.ahead.now) }
     {
         if let [Token::Declare(kind), rest @ ..] = self.ahead {
             self.ahead = rest;
@@ -57,7 +51,7 @@ impl<'a> Cursor<'a> {
     /// Takes the sign of an operator, if it is next.
     fn operator(&mut self) -> Option<Operator>
         ensures read { IfSome result (λ operator. self.old.ahead.now ≡ token.Sign operator ∷ self.new.ahead.now) }
-        ensures other { IfNone result ((operator : Operator) (rest : List Token) → self.old.ahead.now ≡ token.Sign operator ∷ rest → ⊥) }
+        ensures other { IfNone result (NoneNext token.Sign self.old.ahead.now) }
         ensures kept { IfNone result (self.new.ahead.now ≡ self.old.ahead.now) }
     {
         if let [Token::Sign(operator), rest @ ..] = self.ahead {
@@ -70,7 +64,7 @@ impl<'a> Cursor<'a> {
     /// Takes a name, if it is next.
     fn name(&mut self, alloc: Global) -> Result<Option<Label>, NoMemory>
         ensures read { IfOk result (λ found. IfSome found (λ name. self.old.ahead.now ≡ token.Name name ∷ self.new.ahead.now)) }
-        ensures other { IfOk result (λ found. IfNone found ((name : List ℕ) (rest : List Token) → self.old.ahead.now ≡ token.Name name ∷ rest → ⊥)) }
+        ensures other { IfOk result (λ found. IfNone found (NoneNext token.Name self.old.ahead.now)) }
     {
         if let [Token::Name(name), rest @ ..] = self.ahead {
             let name = name.copy(alloc)?;
@@ -83,7 +77,7 @@ impl<'a> Cursor<'a> {
     /// Takes an operand, if it is next.
     fn arg(&mut self, alloc: Global) -> Result<Option<Arg>, NoMemory>
         ensures read { IfOk result (λ found. IfSome found (λ arg. self.old.ahead.now ≡ arg_token arg ∷ self.new.ahead.now)) }
-        ensures other { IfOk result (λ found. IfNone found ((arg : Arg) (rest : List Token) → self.old.ahead.now ≡ arg_token arg ∷ rest → ⊥)) }
+        ensures other { IfOk result (λ found. IfNone found (NoneNext arg_token self.old.ahead.now)) }
     {
         if let [Token::Number(number), rest @ ..] = self.ahead {
             self.ahead = rest;
@@ -98,9 +92,11 @@ impl<'a> Cursor<'a> {
     /// Takes an operator and its second operand, or nothing where no sign is next. `None` where no operand
     /// follows the sign.
     fn operation(&mut self, alloc: Global) -> Result<Option<Option<Operation>>, NoMemory>
-        ensures read { IfOk result (λ found. IfSome found (λ operation. self.old.ahead.now ≡ operation_tokens operation ++ self.new.ahead.now)) }
+        ensures read { IfOk result (λ found. IfSome found (λ operation.
+            self.old.ahead.now ≡ operation_tokens operation ++ self.new.ahead.now)) }
         ensures only { IfOk result (λ found. IfSome found (λ _. (operation : Option Operation) (rest : List Token)
-            → self.old.ahead.now ≡ operation_tokens operation ++ token.Mark Semicolon ∷ rest → self.new.ahead.now ≡ token.Mark Semicolon ∷ rest)) }
+            → self.old.ahead.now ≡ operation_tokens operation ++ token.Mark Semicolon ∷ rest
+            → self.new.ahead.now ≡ token.Mark Semicolon ∷ rest)) }
         ensures other { IfOk result (λ found. IfNone found ((operation : Option Operation) (rest : List Token)
             → self.old.ahead.now ≡ operation_tokens operation ++ token.Mark Semicolon ∷ rest → ⊥)) }
     {
@@ -198,7 +194,8 @@ impl<'a> Cursor<'a> {
     /// Takes a kernel, if it is next.
     fn kernel(&mut self, alloc: Global) -> Result<Option<SimpleKernel>, NoMemory>
         ensures read { IfOk result (λ found. IfSome found (λ kernel. self.old.ahead.now ≡ tokens_of kernel ++ self.new.ahead.now)) }
-        ensures other { IfOk result (λ found. IfNone found ((kernel : KernelParts) (rest : List Token) → self.old.ahead.now ≡ tokens_of kernel ++ rest → ⊥)) }
+        ensures other { IfOk result (λ found. IfNone found ((kernel : KernelParts) (rest : List Token)
+            → self.old.ahead.now ≡ tokens_of kernel ++ rest → ⊥)) }
     {
         if !self.passes(Mark::Kernel) {
             return Ok(None);

@@ -1,5 +1,5 @@
 //! Simple kernel texts, from bytes to graphs.
-ghost use Rattle.std.specs.Prelude.{◌≡◌, IfOk, MatchOption, ℕ, List};
+ghost use Rattle.std.specs.Prelude.{IfOk, MatchOption};
 ghost use Rattle.comp_graph.specs.Graphs.{GraphParts};
 ghost use Rattle.pebble_cli.specs.SimpleKernels.{KernelParts};
 ghost use Rattle.pebble_cli.specs.SimpleGraphs.{IsSimple, HasOneReading};
@@ -15,8 +15,8 @@ const TEXT_LIMIT: usize = 65536;
 
 /// The graph of a simple text, or `None` where the text is not simple.
 pub fn simple_graph(alloc: Global, text: &[u8]) -> Result<Option<Graph>, NoMemory>
-    ensures { IfOk result (λ found. MatchOption found ((kernel : KernelParts) (graph : GraphParts) → IsSimple text.now kernel graph → ⊥)
-        (λ graph. (kernel : KernelParts) × IsSimple text.now kernel graph)) }
+    ensures { IfOk result (λ found. MatchOption found ((kernel : KernelParts) (graph : GraphParts)
+        → IsSimple text.now kernel graph → ⊥) (λ graph. (kernel : KernelParts) × IsSimple text.now kernel graph)) }
 {
     if text.len() > TEXT_LIMIT {
         return Ok(None);

@@ -1,6 +1,5 @@
 -- No token stands at the front where the first word is none.
-use Rattle.std.proofs.Common.{◌≡◌, None, sym, ◌∙◌}
-use Rattle.pebble_cli.specs.SimpleTokens.{token_of}
+use Rattle.std.proofs.Common.{sym, ◌∙◌}
 use Rattle.pebble_cli.proofs.SimpleTokenLaws.{no_start_at}
 use Rattle.pebble_cli.proofs.simple.lexer.first_token.Goals as goal
 

@@ -1,8 +1,7 @@
 -- The tokens that were found, and then those of what is left.
-use Rattle.std.proofs.Common.{◌≡◌, ℕ, List, [], ◌∷◌, ◌++◌, drop, sym, ◌∙◌, ap, subst, arith}
+use Rattle.std.proofs.Common.{◌≡◌, [], sym, ◌∙◌, subst, arith}
 use Rattle.std.proofs.lemmas.Grind.{common_steps}
-use Rattle.pebble_cli.specs.declared.simple.token.Token.{Token}
-use Rattle.pebble_cli.specs.SimpleTokens.{behind_spaces, BeginsWith}
+use Rattle.pebble_cli.specs.SimpleTokens.{BeginsWith}
 use Rattle.pebble_cli.proofs.SimpleTokenLaws.{Leads, leads_more, leads_end, leads_nowhere}
 use Rattle.pebble_cli.proofs.simple.lexer.tokens.Goals as goal
 

@@ -1,5 +1,5 @@
 -- Where no kernel begins, or something follows it, the tokens are those of none.
-use Rattle.std.proofs.Common.{◌≡◌, [], ◌++◌, sym, ◌∙◌, arith, append-nil}
+use Rattle.std.proofs.Common.{◌≡◌, [], sym, ◌∙◌, arith, append-nil}
 use Rattle.std.proofs.lemmas.Grind.{common_steps}
 use Rattle.pebble_cli.specs.SimpleKernels.{tokens_of}
 use Rattle.pebble_cli.proofs.SimpleKernelLaws.{nothing_follows}

@@ -1,8 +1,7 @@
 -- What each step of the reading says of the text.
-use Rattle.std.proofs.Common.{◌≡◌, ◌≤◌, length, true, false, sym, ◌∙◌, ap, arith}
-use Rattle.pebble_cli.specs.SimpleTokens.{Spells}
-use Rattle.pebble_cli.specs.SimpleKernels.{KernelParts, tokens_of}
-use Rattle.pebble_cli.specs.SimpleGraphs.{IsSimple, is_distinct}
+use Rattle.std.proofs.Common.{◌≡◌, true, false, sym, ◌∙◌, ap, arith}
+use Rattle.pebble_cli.specs.SimpleKernels.{tokens_of}
+use Rattle.pebble_cli.specs.SimpleGraphs.{is_distinct}
 use Rattle.pebble_cli.proofs.SimpleTextLaws.{not_read, not_distinct, result_means}
 use Rattle.pebble_cli.proofs.simple.text.simple_graph.Goals as goal
 
