@@ -1,5 +1,5 @@
 -- A graph as its title, nodes, input names and output elements; the sets that its nodes give; which graphs are well formed.
-use Rattle.std.specs.Prelude.{◌≡◌, ℕ, ◌<◌, ◌≤◌, ◌↔◌, Bool, true, false, List, [], ◌∷◌, length, take, map, Option, Some, None, slice_get}
+use Rattle.std.specs.Prelude.{◌≡◌, ℕ, ◌<◌, ◌≤◌, ◌↔◌, Bool, true, false, List, [], ◌∷◌, length, take, drop, map, pos, Option, Some, None, slice_get}
 use Rattle.std.specs.List.{All}
 use Rattle.std.specs.FinSet as set
 use Rattle.comp_graph.specs.declared.operation.Op.{Op}
@@ -71,12 +71,13 @@ IsConstant (Vertex u) = ⊥
 IsConstant (Const k) = Unit {0}
 
 -- The node of vertex v, where there are so many inputs: just the first nodes are inputs, operands are constants or earlier
--- vertices, a `Set` has a constant, and there are three places for operands
+-- vertices, a `Set` has a constant, and of the three places for operands those from the arity on hold the constant 0
 pub record IsNode (inputs v : ℕ) (n : Node) : Type 0 where
   pub three : length n.args ≡ 3
   pub input_first : (n.op ≡ Input) ↔ (v < inputs)
   pub below : All (IsOperandBelow v) (operands_of n)
   pub set_constant : n.op ≡ Set → All IsConstant (operands_of n)
+  pub rest : All (λ a. a ≡ Const (pos 0)) (drop (arity_of n.op) n.args)
 
 -- at most 256 vertices, a name for each input, and each output element names a vertex
 pub record IsGraph (g : GraphParts) : Type 0 where

@@ -7,8 +7,7 @@ ghost use Rattle.comp_graph.specs.Games.{IsGame};
 use crate::graph::Graph;
 use std::marker::Model;
 
-/// A graph and a number of slots (red pebbles, words of fast memory), from 1 to 64, that is greater than its degree. A complete
-/// pebbling exists exactly where it is greater.
+/// A graph and a number of slots (red pebbles, words of fast memory), from 1 to 64, that is greater than its degree.
 #[derive(Drop)]
 pub struct Game {
     graph: Graph,
@@ -25,8 +24,7 @@ impl Model for Game {
     ghost invariant = { λ a. IsGame (record { graph = a.graph; slots = a.slots }) };
 }
 
-/// There are no more slots than the degree, so no complete pebbling exists. `needs` is the degree plus 1, and the graph is handed
-/// back.
+/// There are no more slots than the degree. `needs` is the degree plus 1, and the graph is handed back.
 #[derive(Drop)]
 pub struct TooSmall {
     pub needs: u16,

@@ -10,8 +10,9 @@ use crate::node::{Node, Operand, Output};
 use crate::vertex_set::VertexSet;
 use std::marker::Model;
 
-/// The graph of a program: one vertex an input element, and then one an executed operation, in order of evaluation. It keeps the
-/// program's title, the labels of its inputs and its output elements. Contracts see it as a record of lists.
+/// The graph of a program. Its vertices are the places of a list of nodes: first the inputs, and then operations on constants and
+/// earlier vertices. It keeps the program's title, the labels of the inputs, and the output elements. Contracts see it as a record of
+/// lists.
 #[derive(Drop)]
 pub struct Graph {
     title: Label,

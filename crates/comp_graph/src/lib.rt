@@ -1,8 +1,8 @@
 //! The computation graph of a straight-line integer program, and the red-blue pebble game on it.
 //!
 //! Sets of vertices, the operations and their values, graphs with their live vertices and their degree, and games, which are
-//! graphs with more slots than the degree. The laws of sets that all crates use stand in `proofs/Sets.antt` and
-//! `proofs/Rising.antt`.
+//! graphs with more slots than the degree. The laws of sets that all crates use stand in `specs/Sets.antt` (`membership`, `same`),
+//! `proofs/Sets.antt` and `proofs/Rising.antt`.
 #![tactic(auto)]
 
 pub mod game;

@@ -1,4 +1,4 @@
-// The trait of desks, the kinds of its calls, and the answer of a call that failed.
+//! The trait of desks, the kinds of its calls, and the answer of a call that failed.
 ghost use Rattle.std.specs.Prelude.{◌≡◌, ℕ, ◌<◌, ◌≤◌, List, [], take, length, IfOk, OnOk, OnErr, is_err};
 ghost use Rattle.std.specs.declared.option.Option.{Option};
 ghost use Rattle.std.specs.Io.KnownBytes.{append_known};
@@ -9,7 +9,10 @@ ghost use Rattle.desk_io.specs.Known.{TakesInput, TakesFile, file_and, file_of};
 
 use std::fmt;
 
-/// A call of a desk that had no effect but on the desk's own counts.
+/// A call of a desk failed.
+///
+/// It left the input, the file and the output as they were, and the counts of the other kinds too. Nothing is said
+/// of the buffer that a take was given.
 #[derive(Clone, Copy, Debug, PartialEq, Eq)]
 pub struct Failed;
 
@@ -65,7 +68,8 @@ pub trait Desk {
     /// Takes the next bytes of the input into the front of `buf`, and answers how many they are.
     ///
     /// They are at most as many as `buf` has room for, and 0 in a buffer with room only at the input's end. The
-    /// rest of the input is left. `Failed` leaves the whole input as it was.
+    /// rest of the input is left. `Failed` leaves the whole input as it was. Nothing is said of `buf` past the
+    /// bytes that were taken, nor of any of it after `Failed`.
     fn take_input(&mut self, buf: &mut [u8]) -> Result<usize, Failed>
         ensures bound { IfOk result (λ count. count ≤ length buf.new) }
         ensures taken { IfOk result (λ count. TakesInput (input self.old) (input self.new) count buf.new) }
@@ -78,7 +82,8 @@ pub trait Desk {
     /// Copies the file's bytes from place `from` on into the front of `buf`, and answers how many they are.
     ///
     /// They are at most as many as `buf` has room for, and 0 in a buffer with room only where the file has no
-    /// byte at `from` or past it. The file stays as it was. A missing file is `Failed`.
+    /// byte at `from` or past it. The file stays as it was. A missing file is `Failed`. Nothing is said of `buf`
+    /// past the bytes that were copied, nor of any of it after `Failed`.
     fn take_file(&mut self, from: u32, buf: &mut [u8]) -> Result<usize, Failed>
         ensures bound { IfOk result (λ count. count ≤ length buf.new) }
         ensures taken { IfOk result (λ count. TakesFile (file self.old) from count buf.new) }

@@ -1,4 +1,4 @@
-// A desk on which no call fails. It tells its input, and forgets what is written.
+//! A desk on which no call fails. It tells its input, and forgets what is written.
 ghost use Rattle.std.specs.Prelude.{◌≡◌, ◌≤◌, ◌+◌, ◌-◌, ◌^◌, min, length, IfOk, IsOk, Ok, Some, None, string_bytes};
 ghost use Rattle.desk_io.specs.Known.{TakesInput, TakesFile};
 

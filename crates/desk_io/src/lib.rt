@@ -1,5 +1,5 @@
-// All that the program touches of the outside: an input, an output and one file. A desk stands for them.
-// Here are the trait of desks, three desks, and the calls that read and write whole texts over any desk.
+//! All that the program touches of the outside: an input, an output and one file. A desk stands for them.
+//! Here are the trait of desks, three desks, and the calls that read and write whole texts over any desk.
 #![tactic(auto)]
 
 mod desk;

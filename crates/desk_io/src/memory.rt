@@ -1,4 +1,4 @@
-// A desk in memory, for tests. It tells all, takes and puts few bytes at a time, and fails where it is told to.
+//! A desk in memory, for tests. It tells all, takes and puts few bytes at a time, and fails where it is told to.
 ghost use Rattle.std.specs.Prelude.{◌≡◌, ◌+◌, ◌-◌, ◌^◌, ◌<◌, ◌≤◌, [], ◌++◌, min, length, take, not, true, ◌||◌, nat_lt, is_none, is_ok, is_err, IfOk, OnOk, OnErr, Some, string_bytes};
 ghost use Rattle.std.specs.Io.KnownBytes.{append_known};
 ghost use Rattle.desk_io.specs.Counts.{Counts, place_of, count_of, raised};

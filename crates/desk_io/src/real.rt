@@ -1,7 +1,7 @@
-// The desk of a running program: standard input, standard output and the file of its name. It tells no bytes.
+//! The desk of a running program: standard input, standard output and the file of its name. It tells no bytes.
 ghost use Rattle.std.specs.Prelude.{◌≡◌, ◌<◌, ◌^◌, IsTrue, IsFalse, ◌-◌, true, None, replicate, string_bytes};
 ghost use Rattle.std.specs.Io.{ReadsAtMost, WritesAtMost};
-ghost use Rattle.desk_io.specs.Counts.{Counts, count_of};
+ghost use Rattle.desk_io.specs.Counts.{Counts, count_of, raised};
 
 use crate::desk::{Desk, Failed, Kind};
 use std::fs::OpenOptions;
@@ -11,11 +11,14 @@ use std::{fs, io};
 
 /// The desk of a running program: standard input, standard output and the file of its name.
 ///
-/// It tells no bytes, since no proof can say what the outside holds. A call is `Failed` where the operating
-/// system answers an error, where it writes 0 bytes of a piece that is not empty, and, with no effect, where the
-/// fault count of the call's kind stands at its last value, 2^64 - 1. Each `Failed` but that one raises the
-/// count by one. Each call on the file opens it anew; a put makes a missing file, and a take does not.
-/// The rules are this project's convention.
+/// It tells no bytes, since no proof can say what the outside holds. So what is proved of its calls is what `Desk`
+/// says where nothing is told: how many bytes a call answers at most and, of a put, at least; which fault counts
+/// rise and which stay; and that its name stays. The rules are this project's convention.
+///
+/// No clause says what the operating system is asked to do; that stands in the code alone. The name is one relative
+/// to the working folder, and each call on the file opens it anew; a put makes a missing file, and a take does not.
+/// A call is `Failed` where the operating system answers an error, where it writes 0 bytes of a piece that is not
+/// empty, and, before anything is asked, where the fault count of its kind stands at its last value, 2^64 - 1.
 #[derive(Drop)]
 pub struct RealDesk<'a, R: Input + Print + Files> {
     rt: &'a R,
@@ -25,8 +28,7 @@ pub struct RealDesk<'a, R: Input + Print + Files> {
 }
 
 impl<'a, R: Input + Print + Files> RealDesk<'a, R> {
-    /// The desk over this runtime whose file has this name, relative to the working folder. No call of it has
-    /// failed yet, and no file is touched.
+    /// The desk over this runtime whose file has this name. No call of it has failed yet.
     pub fn new(rt: &'a R, name: String) -> RealDesk<'a, R>
         ensures named { string_bytes result.name ≡ string_bytes name }
         ensures fresh { result.faults ≡ replicate 5 0 }
@@ -47,8 +49,9 @@ impl<'a, R: Input + Print + Files> RealDesk<'a, R> {
         self.faults[kind.place()] == u64::MAX
     }
 
-    // Counts a failed call.
+    // Counts a failed call: the count of its kind rises by exactly one, and stands still at its last value.
     fn fail(&mut self, kind: Kind) -> Failed
+        ensures after { self.new.faults ≡ raised self.old.faults kind (2 ^ 64 - 1) }
         ensures counts { Counts kind (count_of self.old.faults) (count_of self.new.faults) true }
         ensures same_name { self.new.name ≡ self.old.name }
     {

@@ -1,4 +1,8 @@
-// Each public call once on its happy path, a read and a write that fail in mid-stream, and counters at their ends.
+//! Tests of the three desks and of the calls that read and write whole texts over them.
+//!
+//! The desk in memory takes and puts a few bytes a call: it is read and written whole, has more input than the limit,
+//! has no file, fails a read and a write in mid-stream, and stands with its counters at their last values. The honest
+//! desk is read and written whole, and the real desk's file too. The errors' numbers and printed texts are pinned.
 ghost use Rattle.std.specs.Prelude.{◌≤◌};
 
 use crate::{

@@ -1,4 +1,4 @@
-// A whole input or file is read, and a whole text is written, by calls that take or put any number of bytes.
+//! A whole input or file is read, and a whole text is written, by calls that take or put any number of bytes.
 ghost use Rattle.std.specs.Prelude.{◌≡◌, ℕ, ◌<◌, ◌≤◌, ◌⊎◌, List, length, take, IfOk, OnOk, OnErr};
 ghost use Rattle.std.specs.Io.KnownBytes.{append_known, prepend_known};
 ghost use Rattle.desk_io.specs.declared.desk.Kind.{Kind};
@@ -19,7 +19,7 @@ pub enum ReadEnd {
     TooLong = 1,
     /// A take failed.
     ReadFault = 2,
-    /// There was no memory for the bytes.
+    /// Memory was wanted and not found.
     NoMemory = 3,
 }
 
@@ -49,11 +49,11 @@ impl std::error::Error for WriteFault {}
 
 /// The whole input that is left, read to its end, where it has at most `limit` bytes.
 ///
-/// `TooLong` comes exactly where more than `limit` bytes stand there and no take failed before `limit + 1` of
-/// them were taken. `ReadFault` comes only where the desk's count of failed takes from the input rose in this
-/// call; then at most `limit` bytes were taken. `NoMemory` comes only for want of memory. After an error the
-/// bytes that were taken are lost, and the rest of the input is left. The file, the output and the other
-/// counts stay as they were. Each turn takes at least one byte or ends, so there are at most `limit + 2` turns.
+/// `TooLong` comes exactly where more than `limit` bytes stand there, and neither a take nor memory fails first.
+/// `ReadFault` comes only where the desk's count of failed takes from the input rose in this call, or stands at its
+/// last value; then at most `limit` bytes were taken. `NoMemory` comes only for want of memory. After an error the
+/// bytes that were taken are lost, and the rest of the input is left. The file, the output and the other counts stay
+/// as they were. Each turn takes at least one byte or ends, so there are at most `limit + 2` turns.
 pub fn read_input<D: Desk>(alloc: Global, desk: &mut D, limit: u32) -> Result<Vec<u8>, ReadEnd>
     ensures whole { IfOk result (λ text. Tells (D.input desk.old) text.items) }
     ensures fits { IfOk result (λ text. length text.items ≤ limit) }
@@ -92,10 +92,10 @@ pub fn read_input<D: Desk>(alloc: Global, desk: &mut D, limit: u32) -> Result<Ve
 
 /// The whole file, where it has at most `limit` bytes.
 ///
-/// `TooLong` comes exactly where more than `limit` bytes stand there and no take failed before `limit + 1` of
-/// them were taken. `ReadFault` comes only where the desk's count of failed takes from the file rose in this
-/// call; a missing file is one. `NoMemory` comes only for want of memory. The input, the file, the output and
-/// the other counts stay as they were. Each turn takes at least one byte or ends, so there are at most
+/// `TooLong` comes exactly where more than `limit` bytes stand there, and neither a take nor memory fails first.
+/// `ReadFault` comes only where the desk's count of failed takes from the file rose in this call, or stands at its
+/// last value; a missing file is a failed take. `NoMemory` comes only for want of memory. The input, the file, the
+/// output and the other counts stay as they were. Each turn takes at least one byte or ends, so there are at most
 /// `limit + 2` turns.
 pub fn read_file<D: Desk>(alloc: Global, desk: &mut D, limit: u32) -> Result<Vec<u8>, ReadEnd>
     ensures whole { IfOk result (λ text. TellsFile (D.file desk.old) text.items) }
@@ -132,12 +132,12 @@ pub fn read_file<D: Desk>(alloc: Global, desk: &mut D, limit: u32) -> Result<Vec
 
 /// Appends exactly `text` to the output.
 ///
-/// `WriteFault` comes only where the desk's count of failed puts to the output rose in this call; then a prefix of
-/// `text` was appended. The input, the file and the other counts stay as they were. Each turn puts at least one
-/// byte or ends, and no memory is taken.
+/// `WriteFault` comes only where the desk's count of failed puts to the output rose in this call, or stands at its
+/// last value; then a prefix of `text` was appended, and never the whole. The input, the file and the other counts
+/// stay as they were. Each turn puts at least one byte or ends, and no memory is taken.
 pub fn write_output<D: Desk>(desk: &mut D, text: &[u8]) -> Result<(), WriteFault>
     ensures ok { OnOk result (D.output desk.new ≡ append_known (D.output desk.old) text.now) }
-    ensures prefix { OnErr result ((count : ℕ) × (count ≤ length text.now)
+    ensures prefix { OnErr result ((count : ℕ) × (count < length text.now)
         × (D.output desk.new ≡ append_known (D.output desk.old) (take count text.now))) }
     ensures cause { OnErr result (Rose (D.faults desk.old Kind.PutOutput) (D.faults desk.new Kind.PutOutput)) }
     ensures no_fault { OnOk result (D.faults desk.new Kind.PutOutput ≡ D.faults desk.old Kind.PutOutput) }
@@ -160,18 +160,19 @@ pub fn write_output<D: Desk>(desk: &mut D, text: &[u8]) -> Result<(), WriteFault
 
 /// Makes the file be there with exactly these bytes.
 ///
-/// `WriteFault` comes only where the desk's count of failed clears or of failed puts to the file rose in this call.
-/// Where the clear failed, the file is as it was and nothing was put; else the file is there and holds a prefix
-/// of `bytes`. The input, the output and the other counts stay as they were. Each turn puts at least one byte or
-/// ends, and no memory is taken.
+/// `WriteFault` comes in two cases only. Where the clear failed, the count of failed clears rose, or stands at its last
+/// value; that of failed puts to the file and the file are as they were. Where a put failed, the count of failed puts
+/// rose, or stands at its last value; that of failed clears is as it was, and the file is there and holds a prefix of
+/// `bytes`, and never the whole. The input, the output and the other counts stay as they were. Each turn puts at
+/// least one byte or ends, and no memory is taken.
 pub fn write_file<D: Desk>(desk: &mut D, bytes: &[u8]) -> Result<(), WriteFault>
     ensures ok { OnOk result (D.file desk.new ≡ file_of (D.file desk.old) bytes.now) }
-    ensures not_cleared { OnErr result (
-        Rose (D.faults desk.old Kind.ClearFile) (D.faults desk.new Kind.ClearFile) × (D.file desk.new ≡ D.file desk.old)
-        ⊎ Rose (D.faults desk.old Kind.PutFile) (D.faults desk.new Kind.PutFile) × ((count : ℕ) × (count ≤ length bytes.now)
-        × (D.file desk.new ≡ file_of (D.file desk.old) (take count bytes.now)))) }
-    ensures kept { OnErr result (Rose (D.faults desk.old Kind.ClearFile) (D.faults desk.new Kind.ClearFile) →
-        (D.file desk.new ≡ D.file desk.old) × (D.faults desk.new Kind.PutFile ≡ D.faults desk.old Kind.PutFile)) }
+    ensures fault { OnErr result (
+        (Rose (D.faults desk.old Kind.ClearFile) (D.faults desk.new Kind.ClearFile) × (D.file desk.new ≡ D.file desk.old)
+        × (D.faults desk.new Kind.PutFile ≡ D.faults desk.old Kind.PutFile))
+        ⊎ (Rose (D.faults desk.old Kind.PutFile) (D.faults desk.new Kind.PutFile)
+        × (D.faults desk.new Kind.ClearFile ≡ D.faults desk.old Kind.ClearFile)
+        × ((count : ℕ) × (count < length bytes.now) × (D.file desk.new ≡ file_of (D.file desk.old) (take count bytes.now))))) }
     ensures no_fault { OnOk result ((D.faults desk.new Kind.ClearFile ≡ D.faults desk.old Kind.ClearFile)
         × (D.faults desk.new Kind.PutFile ≡ D.faults desk.old Kind.PutFile)) }
 

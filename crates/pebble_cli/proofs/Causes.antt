@@ -1,5 +1,5 @@
 -- What a status says of the command, the input and the table.
-use Rattle.std.proofs.Common.{◌≡◌, ◌≢◌, ◌⊎◌, ◌<◌, ◌≤◌, ◌+◌, ℕ, true, false, List, None, Some, refl, sym, ap, ◌∙◌, subst, inl, inr, arith}
+use Rattle.std.proofs.Common.{◌≡◌, ◌≢◌, ◌⊎◌, ◌<◌, ◌≤◌, ◌+◌, ℕ, Bool, true, false, List, None, Some, refl, sym, ap, ◌∙◌, subst, inl, inr, arith}
 use Rattle.std.specs.declared.option.Option.{Option}
 use Rattle.comp_graph.specs.Dags.{degree}
 use Rattle.comp_graph.specs.Graphs.{GraphParts, dag_of}
@@ -9,8 +9,9 @@ use Rattle.pebble_cli.specs.declared.words.Command.{Command}
 use Rattle.pebble_cli.specs.declared.words.Command.TheVariants as asked
 use Rattle.pebble_cli.specs.SimpleKernels.{KernelParts}
 use Rattle.pebble_cli.specs.SimpleGraphs.{IsSimple}
-use Rattle.pebble_cli.specs.PlanAnswers.{IsPlanned}
-use Rattle.pebble_cli.specs.Answers.{Answers, Refuses, Plans, IsFaulty, IsTooSmall, IsNotSimple}
+use Rattle.pebble_cli.specs.PlanCode.{bound_of}
+use Rattle.pebble_cli.specs.PlanAnswers.{IsPlanned, game_parts, first_cost}
+use Rattle.pebble_cli.specs.Answers.{Answers, Refuses, Plans, IsFaulty, IsTooSmall, IsNotSimple, IsOfRead}
 use Rattle.pebble_cli.proofs.SimpleTextLaws.{one_reading}
 
 -- the two ways to refuse a text
@@ -150,3 +151,45 @@ pub answers_at : {asked command : Option Command} {told text : List ℕ} (status
     → asked ≡ command → told ≡ text → Answers asked told status printed table → Answers command text status printed table
 answers_at {command = command} {told = told} status printed table same is h =
     subst (λ t. Answers command t status printed table) is (subst (λ x. Answers x told status printed table) same h)
+
+-- ---- which verdict
+
+-- the graph of a planned text is the one of each reading
+planned_graph : (text : List ℕ) (kernel : KernelParts) (graph : GraphParts) (slots budget : ℕ) (optimal : Bool) (printed : List ℕ) (table : Option (List ℕ))
+    → IsSimple text kernel graph → (h : IsPlanned slots budget text optimal printed table) → (h.plan.bound ≡ bound_of (game_parts graph slots)) × (h.plan.cost ≡ first_cost graph slots)
+planned_graph text kernel graph slots budget optimal printed table simple h =
+    let same = (one_reading text h.kernel kernel h.graph graph h.simple simple).1 in
+    (h.answer.bound ∙ ap (λ g. bound_of (game_parts g slots)) same, h.answer.cost ∙ h.answer.first ∙ ap (λ g. first_cost g slots) same)
+
+pub answer_to_tight : (slots budget : ℕ) (text : List ℕ) (kernel : KernelParts) (graph : GraphParts) (status : Status) (printed : List ℕ) (table : Option (List ℕ)) →
+    Answers (Some (asked.Plan slots budget)) text status printed table → IsSimple text kernel graph → degree (dag_of graph) < slots → bound_of (game_parts graph slots) ≡ first_cost graph slots → status ≡ Optimal
+answer_to_tight slots budget text kernel graph status printed table h simple room tight =
+    elim (one_of slots budget text status printed table h).cases [
+      | inl (inl k) ↦ absurd (k.1.fault kernel graph simple)
+      | inl (inr k) ↦ absurd (omega (arith, k.1.small, one_degree text kernel k.1.kernel graph k.1.graph simple k.1.simple))
+      | inr (inl k) ↦ k.0
+      | inr (inr k) ↦
+          let numbers = planned_graph text kernel graph slots budget false printed table simple k.1 in
+          let below = (k.1.answer.is_open.0 k.1.verdict).1 in
+          absurd (omega (arith, numbers.0, numbers.1, below, tight))
+    ]
+
+pub answer_to_loose : (slots budget : ℕ) (text : List ℕ) (kernel : KernelParts) (graph : GraphParts) (status : Status) (printed : List ℕ) (table : Option (List ℕ)) →
+    Answers (Some (asked.Plan slots budget)) text status printed table → IsSimple text kernel graph → degree (dag_of graph) < slots → bound_of (game_parts graph slots) < first_cost graph slots → status ≡ Open
+answer_to_loose slots budget text kernel graph status printed table h simple room loose =
+    elim (one_of slots budget text status printed table h).cases [
+      | inl (inl k) ↦ absurd (k.1.fault kernel graph simple)
+      | inl (inr k) ↦ absurd (omega (arith, k.1.small, one_degree text kernel k.1.kernel graph k.1.graph simple k.1.simple))
+      | inr (inl k) ↦
+          let numbers = planned_graph text kernel graph slots budget true printed table simple k.1 in
+          let equal = k.1.answer.is_optimal.0 k.1.verdict in
+          absurd (omega (arith, numbers.0, numbers.1, equal, loose))
+      | inr (inr k) ↦ k.0
+    ]
+
+-- a kernel's fault and Usage are no statuses of an input that was read to its end
+pub fault_is_not_of_read : (status : Status) → status ≡ Kernel → IsOfRead status → ⊥
+fault_is_not_of_read status is of = elim of [ inl e ↦ absurd cc | inr (inl e) ↦ absurd cc | inr (inr e) ↦ absurd cc ]
+
+pub usage_is_not_of_read : (status : Status) → status ≡ Usage → IsOfRead status → ⊥
+usage_is_not_of_read status is of = elim of [ inl e ↦ absurd cc | inr (inl e) ↦ absurd cc | inr (inr e) ↦ absurd cc ]

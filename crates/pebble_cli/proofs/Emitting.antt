@@ -1,4 +1,4 @@
--- The code that is emitted for a pebbling that places no pebble twice plays it, and keeps the bounds of a code.
+-- The code that is emitted for a pebbling that places no pebble where one of its colour stands plays it, and keeps the bounds of a code.
 use Rattle.std.proofs.Common.{◌≡◌, ℕ, zero, suc, ◌+◌, ◌<◌, ◌≤◌, true, false, cond, ltb, pos, None, Some, List, [], ◌∷◌, ◌++◌, length, map, take, drop, get_or, slice_get, refl, sym, ap, ◌∙◌, subst, inl, inr, arith, lt-ltb}
 use Rattle.std.specs.FinSet as set
 use Rattle.std.specs.List.{All}

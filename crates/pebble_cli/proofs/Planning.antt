@@ -4,7 +4,11 @@ use Rattle.std.proofs.lemmas.Bool.{cases_eq, eqb-true, eq-eqb, ne_eqb, false≢t
 use Rattle.comp_graph.specs.declared.node.Output.{Output}
 use Rattle.comp_graph.specs.Dags.{degree}
 use Rattle.comp_graph.specs.Graphs.{GraphParts, dag_of}
-use Rattle.comp_graph.specs.Games.{GameParts, IsGame}
+use Rattle.comp_graph.specs.Games.{GameParts, IsGame, game_on}
+use Rattle.comp_graph.proofs.GraphLaws.{IsDag-dag_of}
+use Rattle.pebble_rules.specs.declared.moves.Move.{Move}
+use Rattle.pebble_rules.specs.Rules.{start, IsComplete}
+use Rattle.pebble_rules.proofs.Possible.{possible_above_degree}
 use Rattle.scratch_machine.specs.declared.code.OutWord.{OutWord}
 use Rattle.scratch_machine.specs.Values.{output_values}
 use Rattle.scratch_machine.specs.CodePlays.{loads, stores}
@@ -18,6 +22,7 @@ use Rattle.pebble_cli.specs.TableBytes.{empty_table_bytes}
 use Rattle.pebble_cli.specs.PlanAnswers.{RunsRight, IsAnswer, plain_plan, plan_text, IsPlanned}
 use Rattle.pebble_cli.specs.Answers.{Plans, Refuses, IsTooSmall, too_small_text, verdict_status}
 use Rattle.pebble_cli.proofs.PlanRight.{plain_code_is_right}
+use Rattle.pebble_cli.proofs.SimpleGraphLaws.{IsGraph-graph_of}
 use Rattle.pebble_cli.proofs.SimpleMeanings.{graphs_have_the_meaning, graphs_keep_the_names}
 use Rattle.pebble_cli.proofs.SimpleValues.{values_exist}
 
@@ -54,7 +59,7 @@ plain_plan_answers g kernel budget game evaluated none =
     let names = graphs_keep_the_names kernel g.graph evaluated in
     let below : bound_of g ≤ plain_total g = omega (arith, right.least (moves_of g) right.complete, right.costs) in
     record {
-      first = refl;
+      first = sym right.costs;
       cost = refl;
       code = refl;
       bound = refl;
@@ -87,6 +92,7 @@ plain_plan_is_planned g budget text kernel status printed table game simple none
       kernel = kernel;
       graph = g.graph;
       simple = simple;
+      valid = game.valid;
       room = game.room;
       plan = plain_plan g;
       answer = plain_plan_answers g kernel budget game simple.evaluated none;
@@ -96,16 +102,22 @@ plain_plan_is_planned g budget text kernel status printed table game simple none
     } in
     rw verdict (by_verdict g.slots budget text (plain_plan g).optimal printed (Some table) planned)
 
+-- with too few slots there is no complete pebbling
+too_few_slots : (kernel : KernelParts) (graph : GraphParts) (slots : ℕ) → graph_of kernel ≡ Some graph → 0 < slots → slots ≤ degree (dag_of graph) → (moves : List Move) → IsComplete (game_on graph slots) (start (game_on graph slots)) moves → ⊥
+too_few_slots kernel graph slots evaluated some small =
+    (possible_above_degree (game_on graph slots) (IsDag-dag_of graph (IsGraph-graph_of kernel graph evaluated)) some).0 small
+
 -- a kernel with too few slots
 pub too_small_is_refused : (slots needs : ℕ) (text : List ℕ) (kernel : KernelParts) (graph : GraphParts) (status : Status) (printed : List ℕ) (table : Option (List ℕ))
-    → IsSimple text kernel graph → slots ≤ degree (dag_of graph) → needs ≡ degree (dag_of graph) + 1
+    → 0 < slots → IsSimple text kernel graph → slots ≤ degree (dag_of graph) → needs ≡ degree (dag_of graph) + 1
     → status ≡ TooSmall → printed ≡ too_small_text needs → table ≡ None → Refuses slots text status printed table
-too_small_is_refused slots needs text kernel graph status printed table simple small needed is line none =
+too_small_is_refused slots needs text kernel graph status printed table some simple small needed is line none =
     let refused : IsTooSmall slots text printed table = record {
       kernel = kernel;
       graph = graph;
       simple = simple;
       small = small;
+      impossible = too_few_slots kernel graph slots simple.evaluated some small;
       line = line ∙ ap too_small_text needed;
       none = none;
     } in

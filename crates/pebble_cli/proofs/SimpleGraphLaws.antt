@@ -1,5 +1,5 @@
 -- The graph of a simple kernel is a graph: what the log and the origins keep from step to step.
-use Rattle.std.proofs.Common.{◌≡◌, ℕ, suc, ◌+◌, ◌<◌, ◌≤◌, ltb, cond, Bool, true, false, List, [], ◌∷◌, ◌++◌, length, take, set, get_or, Option, Some, None, unwrap_or, option_and_then, option_map, slice_get, ℤ, pos, zero, refl, sym, ap, ◌∙◌, subst, inl, inr, ◌⊎◌, ⊎_elim, length-append, arith}
+use Rattle.std.proofs.Common.{◌≡◌, ℕ, suc, ◌+◌, ◌<◌, ◌≤◌, ltb, cond, Bool, true, false, List, [], ◌∷◌, ◌++◌, length, take, drop, set, get_or, Option, Some, None, unwrap_or, option_and_then, option_map, slice_get, ℤ, pos, zero, refl, sym, ap, ◌∙◌, subst, inl, inr, ◌⊎◌, ⊎_elim, length-append, arith}
 use Rattle.std.specs.List.{All}
 use Rattle.std.proofs.lemmas.Bool.{ltb-true}
 use Rattle.std.proofs.lemmas.List.Elements.{All-nil, All-cons, All-push, All-set, All-weaker, All-get_or}
@@ -84,6 +84,13 @@ below_more a b (Const k) h below = tt
 below_two : (n : ℕ) (x y : Operand) → IsOperandBelow n x → IsOperandBelow n y → All (IsOperandBelow n) (x ∷ y ∷ [])
 below_two n x y a b = All-cons (IsOperandBelow n) x (y ∷ []) a (All-cons (IsOperandBelow n) y [] b (All-nil (IsOperandBelow n)))
 
+-- a place that no operand stands in
+abbrev IsNothing : Operand → Type 0
+IsNothing a = a ≡ Const (pos 0)
+
+one_nothing : All IsNothing (Const (pos 0) ∷ [])
+one_nothing = All-cons IsNothing (Const (pos 0)) [] refl (All-nil IsNothing)
+
 -- an entry with two operands
 IsNode-entry : (inputs n : ℕ) (operation : Op) (x y : Operand) → arity_of operation ≡ 2 → inputs ≤ n → IsOperandBelow n x → IsOperandBelow n y → IsNode inputs n (entry operation x y)
 IsNode-entry inputs n operation x y two h a b =
@@ -94,6 +101,7 @@ IsNode-entry inputs n operation x y two h a b =
       input_first = (λ is. absurd (no_input is), λ low. absurd (omega (arith, low, h)));
       below = subst (λ k. All (IsOperandBelow n) (take k (x ∷ y ∷ Const (pos 0) ∷ []))) (sym two) (below_two n x y a b);
       set_constant = λ is. absurd (no_set is);
+      rest = subst (λ k. All IsNothing (drop k (x ∷ y ∷ Const (pos 0) ∷ []))) (sym two) one_nothing;
     }
 
 two_operands : (operator : Operator) → arity_of (op_of operator) ≡ 2
@@ -111,6 +119,7 @@ IsNode-set inputs n k h = record {
   input_first = (λ is. absurd (cc), λ low. absurd (omega (arith, low, h)));
   below = All-cons (IsOperandBelow n) (Const k) [] tt (All-nil (IsOperandBelow n));
   set_constant = λ is. All-cons IsConstant (Const k) [] tt (All-nil IsConstant);
+  rest = All-cons IsNothing (Const (pos 0)) (Const (pos 0) ∷ []) refl one_nothing;
 }
 
 -- an input's entry
@@ -123,6 +132,7 @@ IsNode-input inputs v h = record {
   input_first = (λ is. h, λ low. refl);
   below = All-nil (IsOperandBelow v);
   set_constant = λ is. absurd (cc);
+  rest = All-cons IsNothing (Const (pos 0)) (Const (pos 0) ∷ Const (pos 0) ∷ []) refl (All-cons IsNothing (Const (pos 0)) (Const (pos 0) ∷ []) refl one_nothing);
 }
 
 -- ---- origins

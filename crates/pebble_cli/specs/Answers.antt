@@ -5,6 +5,9 @@ use Rattle.desk_io.specs.declared.desk.Kind.{Kind}
 use Rattle.desk_io.specs.declared.desk.Kind.TheVariants.{TakeInput, PutOutput, PutFile, ClearFile}
 use Rattle.desk_io.specs.Counts.{Rose}
 use Rattle.comp_graph.specs.Dags.{degree}
+use Rattle.comp_graph.specs.Games.{game_on}
+use Rattle.pebble_rules.specs.declared.moves.Move.{Move}
+use Rattle.pebble_rules.specs.Rules.{start, IsComplete}
 use Rattle.comp_graph.specs.Graphs.{GraphParts, dag_of}
 use Rattle.pebble_cli.specs.declared.status.Status.{Status}
 use Rattle.pebble_cli.specs.declared.status.Status.TheVariants.{Optimal, Usage, Kernel, TooSmall, Open, ReadFault, WriteFault, NoMemory}
@@ -41,12 +44,14 @@ pub record IsFaulty (text : List ℕ) (printed : List ℕ) (table : Option (List
   pub line : printed ≡ not_simple_text
   pub none : table ≡ None
 
--- there are no more slots than the degree of the text's graph, the degree plus 1 is printed, and no table is written
+-- there are no more slots than the degree of the text's graph, so there is no complete pebbling; the degree plus 1 is printed, and no
+-- table is written
 pub record IsTooSmall (slots : ℕ) (text : List ℕ) (printed : List ℕ) (table : Option (List ℕ)) : Type 0 where
   pub kernel : KernelParts
   pub graph : GraphParts
   pub simple : IsSimple text kernel graph
   pub small : slots ≤ degree (dag_of graph)
+  pub impossible : (moves : List Move) → IsComplete (game_on graph slots) (start (game_on graph slots)) moves → ⊥
   pub line : printed ≡ too_small_text (degree (dag_of graph) + 1)
   pub none : table ≡ None
 
@@ -77,7 +82,11 @@ abbrev pub ReadCause : Option Command → (Kind → ℕ) → (Kind → ℕ) → 
 ReadCause None before now = ⊥
 ReadCause (Some (asked.Plan slots budget)) before now = Rose (before TakeInput) (now TakeInput)
 
--- the status, or one of those to which each other status yields
+-- a status that is answered to an input that was read to its end
+abbrev pub IsOfRead : Status → Type 0
+IsOfRead status = (status ≡ Optimal) ⊎ ((status ≡ Open) ⊎ (status ≡ TooSmall))
+
+-- the result is the status, or one of the three answers that may stand in its place: a read fault, a write fault, want of memory
 abbrev pub IsYielded : Status → Status → Type 0
 IsYielded result status = (result ≡ status) ⊎ ((result ≡ ReadFault) ⊎ ((result ≡ WriteFault) ⊎ (result ≡ NoMemory)))
 

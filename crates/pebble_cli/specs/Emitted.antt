@@ -35,7 +35,7 @@ abbrev pub first : List ℕ → ℕ
 first [] = 0
 first (x ∷ xs) = x
 
--- the lowest member
+-- the lowest member, and 0 where there is none
 unfoldable pub lowest : Vertices → ℕ
 lowest s = first (rising 256 s)
 

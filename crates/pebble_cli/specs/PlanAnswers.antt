@@ -2,7 +2,7 @@
 -- budget of positions. This is the promise of the program for a kernel that it accepts.
 use Rattle.std.specs.Prelude.{◌≡◌, ℕ, ℤ, ◌≤◌, ◌<◌, ◌↔◌, ◌==◌, Bool, true, false, List, ◌++◌, length, map, Option, Some, Ok}
 use Rattle.comp_graph.specs.Dags.{degree}
-use Rattle.comp_graph.specs.Graphs.{GraphParts, dag_of}
+use Rattle.comp_graph.specs.Graphs.{GraphParts, IsGraph, dag_of}
 use Rattle.comp_graph.specs.Games.{GameParts, game_on}
 use Rattle.pebble_rules.specs.declared.moves.Move.{Move}
 use Rattle.pebble_rules.specs.Rules.{start, IsComplete, cost as moves_cost}
@@ -14,7 +14,7 @@ use Rattle.pebble_cli.specs.declared.texts.report.Facts.{Facts}
 use Rattle.pebble_cli.specs.SimpleKernels.{KernelParts}
 use Rattle.pebble_cli.specs.SimpleGraphs.{IsSimple, input_names}
 use Rattle.pebble_cli.specs.SimpleMeaning.{source_outputs, output_names}
-use Rattle.pebble_cli.specs.PlanCode.{plain_code, plain_total, bound_of}
+use Rattle.pebble_cli.specs.PlanCode.{moves_of, plain_code, plain_total, bound_of}
 use Rattle.pebble_cli.specs.ReportText.{report_text}
 use Rattle.pebble_cli.specs.CodeText.{code_text}
 use Rattle.pebble_cli.specs.TableBytes.{empty_table_bytes}
@@ -33,6 +33,10 @@ pub record Plan : Type 0 where
 abbrev pub game_parts : GraphParts → ℕ → GameParts
 game_parts graph slots = record { graph = graph; slots = slots }
 
+-- what the plain plan of a graph with this many slots costs: the loads and stores among its moves
+abbrev pub first_cost : GraphParts → ℕ → ℕ
+first_cost graph slots = moves_cost (game_on graph slots) (moves_of (game_parts graph slots))
+
 -- On these values of the inputs the source has outputs, and the run of the code meets no empty slot or word, gives the same outputs,
 -- and makes this many loads and stores.
 pub record RunsRight (kernel : KernelParts) (code : CodeParts) (count : ℕ) (values : List ℤ) : Type 0 where
@@ -43,7 +47,7 @@ pub record RunsRight (kernel : KernelParts) (code : CodeParts) (count : ℕ) (va
   pub same : ending.outputs ≡ outputs
   pub counted : transfers ending ≡ count
 
--- there is a complete pebbling of this cost that the code plays, by the rules of 1981
+-- there is a complete pebbling of this cost that the code plays, by the rules of the game
 pub record PlaysPebbling (graph : GraphParts) (slots : ℕ) (code : CodeParts) (count : ℕ) : Type 0 where
   pub moves : List Move
   pub complete : IsComplete (game_on graph slots) (start (game_on graph slots)) moves
@@ -53,7 +57,7 @@ pub record PlaysPebbling (graph : GraphParts) (slots : ℕ) (code : CodeParts) (
 -- The plan answers a kernel with this graph, with this many slots and this budget of positions.
 pub record IsAnswer (kernel : KernelParts) (graph : GraphParts) (slots budget : ℕ) (plan : Plan) : Type 0 where
   -- the first plan is the plain plan, and the answered plan is the first one
-  pub first : plan.first ≡ plain_total (game_parts graph slots)
+  pub first : plan.first ≡ first_cost graph slots
   pub cost : plan.cost ≡ plan.first
   pub code : plan.code ≡ plain_code (game_parts graph slots)
   -- the bound counts the outputs that are no inputs and the inputs that a live vertex reads; no position is expanded
@@ -67,9 +71,10 @@ pub record IsAnswer (kernel : KernelParts) (graph : GraphParts) (slots budget : 
   pub code_bounds : IsCode plan.code
   pub code_inputs : plan.code.inputs ≡ input_names kernel.decls
   pub code_outputs : map (λ (o : OutWord). o.label) plan.code.outputs ≡ output_names kernel.decls
-  -- the code is right on every list of as many values as the kernel has inputs, with exactly as many loads and stores as the cost
+  -- the code is right on every list of as many values as the kernel has inputs, those of 64 bits among them, with exactly as many
+  -- loads and stores as the cost
   pub right : (values : List ℤ) → length values ≡ length (input_names kernel.decls) → RunsRight kernel plan.code plan.cost values
-  -- the code plays a complete pebbling of its cost
+  -- the code plays a complete pebbling of its cost, so an operation never writes over the slot of an operand
   pub played : PlaysPebbling graph slots plan.code plan.cost
   -- no complete pebbling costs less than the bound, whatever it computes again, drops or moves in vain
   pub lowest : (moves : List Move) → IsComplete (game_on graph slots) (start (game_on graph slots)) moves → plan.bound ≤ moves_cost (game_on graph slots) moves
@@ -110,6 +115,7 @@ pub record IsPlanned (slots budget : ℕ) (text : List ℕ) (optimal : Bool) (pr
   pub kernel : KernelParts
   pub graph : GraphParts
   pub simple : IsSimple text kernel graph
+  pub valid : IsGraph graph
   pub room : degree (dag_of graph) < slots
   pub plan : Plan
   pub answer : IsAnswer kernel graph slots budget plan

@@ -23,11 +23,11 @@ moves_of g = plain_moves (game_of g) (length g.graph.nodes)
 abbrev pub plain_code : GameParts → CodeParts
 plain_code g = code_of g.graph g.slots (moves_of g)
 
--- how many transfers the plain plan takes
+-- what the plain plan costs, vertex by vertex: the laws show it to be the cost of its moves
 abbrev pub plain_total : GameParts → ℕ
 plain_total g = plain_cost (game_of g) (length g.graph.nodes)
 
--- how many transfers the outputs and the inputs force on every complete pebbling
+-- the number of outputs that are no inputs, which are stored, plus the number of inputs that a live vertex reads, which are loaded
 abbrev pub bound_of : GameParts → ℕ
 bound_of g = first_bound (game_of g)
 
@@ -38,12 +38,12 @@ pub record IsCodeOf (g : GraphParts) (slots : ℕ) (ms : List Move) : Type 0 whe
   pub plays : CodePlays g (code_of g slots ms) ms
   pub valid : IsCode (code_of g slots ms)
 
--- this holds for each complete pebbling that places no pebble twice
+-- this holds for each complete pebbling that places no pebble where one of its colour stands
 abbrev pub EmittedCodePlays : Type 0
 EmittedCodePlays = (g : GraphParts) (slots : ℕ) (ms : List Move) → IsGraph g → 0 < slots → slots ≤ 64
     → IsComplete (game_on g slots) (start (game_on g slots)) ms → AreNeat (start (game_on g slots)) ms → IsCodeOf g slots ms
 
--- the plain plan places no pebble twice
+-- the plain plan places no pebble where one of its colour stands
 abbrev pub PlainMovesAreNeat : Type 0
 PlainMovesAreNeat = (g : PebbleGame) → IsDag g.dag → degree g.dag < g.slots → AreNeat (start g) (plain_moves g g.dag.count)
 

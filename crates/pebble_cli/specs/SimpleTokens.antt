@@ -1,6 +1,7 @@
 -- How the bytes of a simple kernel text stand for its tokens. This language is the project's convention.
 -- Between tokens may stand spaces, tabs, carriage returns and line feeds; there are no comments.
--- Signs and reserved words beyond those below, longer names and greater numbers occur in no simple text, and are no tokens here.
+-- Other signs, the reserved words but kernel, in, out and tmp, longer names and greater numbers occur in no simple text, and are no
+-- tokens here.
 use Rattle.std.specs.Prelude.{◌≡◌, ℕ, ◌+◌, ◌-◌, ◌*◌, ◌^◌, Bool, true, false, ◌&&◌, ◌||◌, ◌==◌, nat_le, nat_lt, if◌then◌else◌, List, [], ◌∷◌, ◌++◌, length, fold, Option, Some, None, codes, pos}
 use Rattle.std.specs.List.{list_all, list_any}
 use Rattle.std.specs.Str.{bytes_eq}

@@ -3,6 +3,8 @@
 
 mod answer;
 mod deliver;
+#[cfg(test)]
+mod kernel_tests;
 mod plan;
 mod simple;
 mod status;

@@ -6,11 +6,13 @@ ghost use Rattle.comp_graph.specs.Dags.{degree};
 ghost use Rattle.comp_graph.specs.Graphs.{GraphParts, dag_of};
 ghost use Rattle.desk_io.specs.declared.desk.Kind.{Kind};
 ghost use Rattle.desk_io.specs.Counts.{Rose};
-ghost use Rattle.desk_io.specs.Known.{Tells, file_items, file_of};
+ghost use Rattle.desk_io.specs.Known.{Tells, file_items, file_of, input_end};
 ghost use Rattle.pebble_cli.specs.declared.status.Status.{Status};
 ghost use Rattle.pebble_cli.specs.declared.words.Command.TheVariants.{Plan};
-ghost use Rattle.pebble_cli.specs.Answers.{Answers, Plans, ReadCause, SameWriteFaults, IsNotSimple, IsYielded, not_simple_text, too_small_text};
+ghost use Rattle.pebble_cli.specs.Answers.{Answers, Plans, IsOfRead, ReadCause, SameWriteFaults, IsNotSimple, IsYielded, not_simple_text, too_small_text};
 ghost use Rattle.pebble_cli.specs.Deliver.{Delivered, CutShort};
+ghost use Rattle.pebble_cli.specs.PlanAnswers.{first_cost, game_parts};
+ghost use Rattle.pebble_cli.specs.PlanCode.{bound_of};
 ghost use Rattle.pebble_cli.specs.SimpleGraphs.{IsSimple};
 ghost use Rattle.pebble_cli.specs.SimpleKernels.{KernelParts};
 ghost use Rattle.pebble_cli.specs.Words.{command, file_word, IsInLimits};
@@ -38,7 +40,8 @@ fn command_answer(alloc: Global, command: Command, text: &[u8]) -> Result<Answer
 
 // The answer of a command to a kernel of too many bytes.
 fn too_long_answer(alloc: Global, command: Command) -> Result<Answer, NoMemory>
-    ensures { IfOk result (λ answer. (text : List ℕ) → IsNotSimple text → Answers (Some command) text answer.status answer.text.items (file_items answer.table)) }
+    ensures answers { IfOk result (λ answer. (text : List ℕ) → IsNotSimple text → Answers (Some command) text answer.status answer.text.items (file_items answer.table)) }
+    ensures status { IfOk result (λ answer. answer.status ≡ Status.Kernel) }
 {
     match command {
         Command::Plan { .. } => Ok(make::not_simple(alloc)?),
@@ -52,6 +55,7 @@ fn answer_kernel<D: Desk>(alloc: Global, desk: &mut D, command: Command) -> Resu
         × Answers (Some command) text answer.status answer.text.items (file_items answer.table)) }
     ensures refusal { IfErr result (λ status. (status ≡ Status.NoMemory)
         ⊎ ((status ≡ Status.ReadFault) × ReadCause (Some command) (D.faults desk.old) (D.faults desk.new))) }
+    ensures read_whole { IfOk result (λ answer. IsOfRead answer.status → D.input desk.new ≡ input_end (D.input desk.old)) }
     ensures write_faults { SameWriteFaults (D.faults desk.old) (D.faults desk.new) }
     ensures same_name { D.name desk.new ≡ D.name desk.old }
     ensures same_file { D.file desk.new ≡ D.file desk.old }
@@ -71,6 +75,7 @@ fn prepare<D: Desk>(alloc: Global, words: &[String], desk: &mut D) -> Result<Ans
         × Answers (command (map string_bytes words.now)) text answer.status answer.text.items (file_items answer.table)) }
     ensures refusal { IfErr result (λ status. (status ≡ Status.NoMemory)
         ⊎ ((status ≡ Status.ReadFault) × ReadCause (command (map string_bytes words.now)) (D.faults desk.old) (D.faults desk.new))) }
+    ensures read_whole { IfOk result (λ answer. IsOfRead answer.status → D.input desk.new ≡ input_end (D.input desk.old)) }
     ensures write_faults { SameWriteFaults (D.faults desk.old) (D.faults desk.new) }
     ensures same_name { D.name desk.new ≡ D.name desk.old }
     ensures same_file { D.file desk.new ≡ D.file desk.old }
@@ -84,8 +89,8 @@ fn prepare<D: Desk>(alloc: Global, words: &[String], desk: &mut D) -> Result<Ans
 
 /// Does all that the program does: the words are those behind the program's name, and the desk's file is the one that they name.
 ///
-/// First the words and the input are read and the whole answer is made, which takes all memory; then the table, if there is one, is
-/// written to the file, and last the text to the output. What is said of bytes holds where the desk tells them.
+/// First the words are read, and the input if they spell a command, and the whole answer is made, which takes all memory; then the
+/// table, if there is one, is written to the file, and last the text to the output. What is said of bytes holds where the desk tells them.
 pub fn pebble<D: Desk>(alloc: Global, words: &[String], desk: &mut D) -> Status
     requires { D.name desk.old ≡ file_word (map string_bytes words.now) }
 
@@ -114,6 +119,18 @@ pub fn pebble<D: Desk>(alloc: Global, words: &[String], desk: &mut D) -> Status
         × (command (map string_bytes words.now) ≡ Some (Plan slots budget)) × Tells (D.input desk.old) text
         × Plans slots budget text result printed (Some table)
         × (D.output desk.new ≡ append_known (D.output desk.old) printed) × (D.file desk.new ≡ file_of (D.file desk.old) table) }
+
+    // Then, and where more slots are needed, the input was read to its end.
+    ensures read_whole { IsOfRead result → D.input desk.new ≡ input_end (D.input desk.old) }
+
+    // Optimal comes exactly where the plain plan costs as much as the bound, Open exactly where it costs more. `headline` says when
+    // they came; this is when they must.
+    ensures optimal { (slots budget : ℕ) (text : List ℕ) (kernel : KernelParts) (graph : GraphParts) → command (map string_bytes words.now) ≡ Some (Plan slots budget)
+        → D.input desk.old ≡ Some text → IsSimple text kernel graph → degree (dag_of graph) < slots
+        → bound_of (game_parts graph slots) ≡ first_cost graph slots → IsYielded result Status.Optimal }
+    ensures opened { (slots budget : ℕ) (text : List ℕ) (kernel : KernelParts) (graph : GraphParts) → command (map string_bytes words.now) ≡ Some (Plan slots budget)
+        → D.input desk.old ≡ Some text → IsSimple text kernel graph → degree (dag_of graph) < slots
+        → bound_of (game_parts graph slots) < first_cost graph slots → IsYielded result Status.Open }
 
     // Usage comes exactly where the words spell no command.
     ensures usage_only { result ≡ Status.Usage → command (map string_bytes words.now) ≡ None }

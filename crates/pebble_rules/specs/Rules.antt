@@ -70,7 +70,7 @@ pub record IsComplete (g : PebbleGame) (p : Position) (ms : List Move) : Type 0 
   pub pebbling : IsPebbling g p ms
   pub outputs_blue : IsWithin g.dag.outputs (position_after p ms).blue
 
--- the vertex that a move computes, if it does, before these
+-- these vertices, with the one in front that the move computes, if it computes one
 abbrev pub computed_by : Move → List ℕ → List ℕ
 computed_by (Compute v) vs = v ∷ vs
 computed_by (Load v) vs = vs

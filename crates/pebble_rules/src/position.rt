@@ -14,8 +14,7 @@ pub struct Position {
 }
 
 impl Position {
-    /// The position from which a pebbling starts: no red pebble, and a blue one on each input. By the rules of 1981, where this
-    /// project's convention is that the game names its inputs. It takes no memory.
+    /// The position from which a pebbling starts: no red pebble, and a blue one on each input. It takes no memory.
     pub fn start(game: &Game) -> Position
         ensures { result ≡ start (game_of game.now) }
     {

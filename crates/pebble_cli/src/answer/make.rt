@@ -38,7 +38,8 @@ pub fn usage(alloc: Global) -> Result<Answer, AllocError>
 
 /// The answer to a text that is not simple.
 pub fn not_simple(alloc: Global) -> Result<Answer, AllocError>
-    ensures { IfOk result (λ answer. (slots : ℕ) (text : List ℕ) → IsNotSimple text → Refuses slots text answer.status answer.text.items (file_items answer.table)) }
+    ensures status { IfOk result (λ answer. answer.status ≡ Status.Kernel) }
+    ensures text { IfOk result (λ answer. (slots : ℕ) (text : List ℕ) → IsNotSimple text → Refuses slots text answer.status answer.text.items (file_items answer.table)) }
 {
     Ok(Answer {
         status: Status::Kernel,

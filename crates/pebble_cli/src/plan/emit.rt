@@ -1,4 +1,4 @@
-//! The code of a pebbling that places no pebble twice.
+//! The code of a pebbling that places no pebble where one of its colour stands.
 ghost use Rattle.std.specs.Prelude.{◌≡◌, ◌<◌, ◌≤◌, IfOk};
 ghost use Rattle.comp_graph.specs.Games.{game_on};
 ghost use Rattle.pebble_rules.specs.Rules.{start, IsComplete};

@@ -12,7 +12,7 @@ pub fn plain_moves_are_neat()
     ensures { PlainMovesAreNeat }
 {}
 
-/// The code that is emitted for a complete pebbling that places no pebble twice plays it, and keeps the bounds of a code.
+/// The code that is emitted for a complete pebbling that places no pebble where one of its colour stands plays it, and keeps the bounds of a code.
 pub fn emitted_code_plays()
     ensures { EmittedCodePlays }
 {}

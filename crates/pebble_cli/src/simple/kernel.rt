@@ -33,7 +33,7 @@ pub struct Stmt {
     pub operation: Option<Operation>,
 }
 
-/// A simple kernel. Names may be declared twice or not at all: `graph` tests them.
+/// A kernel as it is written. Names may be declared twice or not at all: `is_distinct` and `graph` test them.
 #[derive(Drop)]
 pub struct SimpleKernel {
     title: Label,

@@ -3,7 +3,7 @@ use Rattle.std.specs.declared.option.Option.{Option}
 use Rattle.pebble_cli.specs.declared.words.Command.{Command}
 use Rattle.pebble_cli.specs.Answers.{Answers}
 use Rattle.desk_io.specs.Known.{file_items}
-use Rattle.pebble_cli.proofs.Causes.{answers_at, no_table, verdict_of_plan, faulty_text, too_small_text_of, answer_to_faulty, answer_to_small, answer_to_room}
+use Rattle.pebble_cli.proofs.Causes.{answers_at, no_table, verdict_of_plan, faulty_text, too_small_text_of, answer_to_faulty, answer_to_small, answer_to_room, answer_to_tight, answer_to_loose}
 use Rattle.pebble_cli.proofs.Cut.{cut_rose, told_is}
 use Rattle.pebble_cli.proofs.top.pebble.Goals as goal
 
@@ -46,6 +46,18 @@ returns-in-Ok-deliver-clause-complete g c slots budget text kernel graph asked i
     let told = c.in-Ok.ensures.answers in
     let is = told_is _ told.0 text told.1 input in
     elim (answer_to_room slots budget text kernel graph c.in-Ok.answer.status c.in-Ok.answer.text.items (file_items c.in-Ok.answer.table) (answers_at c.in-Ok.answer.status c.in-Ok.answer.text.items (file_items c.in-Ok.answer.table) asked is told.2) simple room) [ inl e ↦ inl e | inr e ↦ inr (inl e) ]
+
+pub returns-in-Ok-deliver-clause-optimal : goal.returns-in-Ok-deliver-clause-optimal
+returns-in-Ok-deliver-clause-optimal g c slots budget text kernel graph asked input simple room tight =
+    let told = c.in-Ok.ensures.answers in
+    let is = told_is _ told.0 text told.1 input in
+    inl (answer_to_tight slots budget text kernel graph c.in-Ok.answer.status c.in-Ok.answer.text.items (file_items c.in-Ok.answer.table) (answers_at c.in-Ok.answer.status c.in-Ok.answer.text.items (file_items c.in-Ok.answer.table) asked is told.2) simple room tight)
+
+pub returns-in-Ok-deliver-clause-opened : goal.returns-in-Ok-deliver-clause-opened
+returns-in-Ok-deliver-clause-opened g c slots budget text kernel graph asked input simple room loose =
+    let told = c.in-Ok.ensures.answers in
+    let is = told_is _ told.0 text told.1 input in
+    inl (answer_to_loose slots budget text kernel graph c.in-Ok.answer.status c.in-Ok.answer.text.items (file_items c.in-Ok.answer.table) (answers_at c.in-Ok.answer.status c.in-Ok.answer.text.items (file_items c.in-Ok.answer.table) asked is told.2) simple room loose)
 
 pub returns-clause-complete : goal.returns-clause-complete
 returns-clause-complete g c slots budget text kernel graph asked input simple room calm =

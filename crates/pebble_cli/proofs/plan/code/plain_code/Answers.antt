@@ -1,4 +1,4 @@
--- The plain plan is a complete pebbling that places no pebble twice.
+-- The plain plan is a complete pebbling that places no pebble where one of its colour stands.
 use Rattle.std.proofs.Common.{◌∙◌}
 use Rattle.pebble_cli.proofs.PlanRight.{complete_at, neat_at}
 use Rattle.pebble_cli.proofs.plan.code.plain_code.Goals as goal
