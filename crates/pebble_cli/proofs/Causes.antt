@@ -1,10 +1,10 @@
 -- What a status says of the command, the input and the table.
-use Rattle.std.proofs.Common.{◌≡◌, ◌≢◌, ◌⊎◌, ◌<◌, ◌≤◌, ◌+◌, ℕ, Bool, true, false, List, None, Some, refl, sym, ap, ◌∙◌, subst, inl, inr, arith}
+use Rattle.std.proofs.Common.{◌≡◌, ◌≢◌, ◌⊎◌, ◌<◌, ◌≤◌, ℕ, Bool, true, false, List, None, Some, refl, ap, ◌∙◌, subst, inl, inr, arith}
 use Rattle.std.specs.declared.option.Option.{Option}
 use Rattle.comp_graph.specs.Dags.{degree}
 use Rattle.comp_graph.specs.Graphs.{GraphParts, dag_of}
 use Rattle.pebble_cli.specs.declared.status.Status.{Status}
-use Rattle.pebble_cli.specs.declared.status.Status.TheVariants.{Optimal, Done, Usage, Kernel, TooSmall, Open, ReadFault, WriteFault, NoMemory}
+use Rattle.pebble_cli.specs.declared.status.Status.TheVariants.{Optimal, Usage, Kernel, TooSmall, Open, ReadFault, WriteFault, NoMemory}
 use Rattle.pebble_cli.specs.declared.words.Command.{Command}
 use Rattle.pebble_cli.specs.declared.words.Command.TheVariants as asked
 use Rattle.pebble_cli.specs.SimpleKernels.{KernelParts}

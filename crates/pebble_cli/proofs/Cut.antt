@@ -1,11 +1,11 @@
 -- Where a write was cut short, the count of its kind rose.
-use Rattle.std.proofs.Common.{◌≡◌, ◌⊎◌, ℕ, List, None, Some, inl, inr, subst, ap, ◌∙◌, sym, refl}
+use Rattle.std.proofs.Common.{◌≡◌, ℕ, List, None, Some, inl, inr, subst, ◌∙◌, sym}
 use Rattle.std.specs.declared.option.Option.{Option}
 use Rattle.desk_io.specs.declared.desk.Kind.{Kind}
 use Rattle.desk_io.specs.declared.desk.Kind.TheVariants.{PutOutput, PutFile, ClearFile}
 use Rattle.desk_io.specs.Counts.{Rose}
 use Rattle.desk_io.specs.Known.{Tells}
-use Rattle.pebble_cli.specs.Deliver.{CutShort, TableCut, TextCut}
+use Rattle.pebble_cli.specs.Deliver.{CutShort}
 use Rattle.pebble_cli.specs.Answers.{SameWriteFaults}
 
 pub cut_rose : {D : Type 0} (file : D → Option (Option (List ℕ))) (output : D → Option (List ℕ)) (faults : D → Kind → ℕ) (first old new : D) (printed : List ℕ) (table : Option (List ℕ))

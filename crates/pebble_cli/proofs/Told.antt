@@ -1,5 +1,5 @@
 -- There is a text that the desk tells, also where it tells none.
-use Rattle.std.proofs.Common.{◌≡◌, ◌<◌, ◌+◌, ℕ, List, [], length, replicate, None, Some, refl, arith}
+use Rattle.std.proofs.Common.{◌<◌, ◌+◌, ℕ, List, [], length, replicate, None, Some, refl, arith}
 use Rattle.std.proofs.lemmas.List.{length-replicate}
 use Rattle.std.specs.declared.option.Option.{Option}
 use Rattle.desk_io.specs.Known.{Tells, TellsMore}

@@ -1,7 +1,4 @@
-use Rattle.std.proofs.Common.{◌≡◌, ◌∙◌, sym, ap, inl, inr, Some, List, ℕ}
-use Rattle.std.specs.declared.option.Option.{Option}
-use Rattle.pebble_cli.specs.declared.words.Command.{Command}
-use Rattle.pebble_cli.specs.Answers.{Answers}
+use Rattle.std.proofs.Common.{◌∙◌, inl, inr}
 use Rattle.desk_io.specs.Known.{file_items}
 use Rattle.pebble_cli.proofs.Causes.{answers_at, no_table, verdict_of_plan, faulty_text, too_small_text_of, answer_to_faulty, answer_to_small, answer_to_room, answer_to_tight, answer_to_loose}
 use Rattle.pebble_cli.proofs.Cut.{cut_rose, told_is}

@@ -1,7 +1,4 @@
-use Rattle.std.proofs.Common.{◌≡◌, List, ℕ, inl, inr, rules}
-use Rattle.comp_graph.specs.Games.{GameParts}
-use Rattle.pebble_cli.specs.SimpleKernels.{KernelParts}
-use Rattle.pebble_cli.specs.SimpleGraphs.{IsSimple}
+use Rattle.std.proofs.Common.{inl, inr}
 use Rattle.pebble_cli.proofs.Planning.{too_small_is_refused}
 use Rattle.pebble_cli.proofs.answer.make.graph_answer.Goals as goal
 
@@ -9,6 +6,6 @@ pub returns-in-Ok : goal.returns-in-Ok
 returns-in-Ok c = λ text kernel simple. inr ((rw c.in-Ok.ensures.ok at c.in_ok-planned-in-Ok.ensures) text kernel simple)
 
 pub returns : goal.returns
-returns c = λ text kernel simple. 
+returns c = λ text kernel simple.
     let small = c.in_ok-too_small-in-Err.ensures in
     inl (too_small_is_refused c.args.slots c.in-Err.field-0.needs text kernel c.args.graph _ _ _ c.requires.some simple c.in-Err.ensures.small c.in-Err.ensures.needs small.status small.text small.none)

@@ -1,4 +1,4 @@
-use Rattle.std.proofs.Common.{◌≡◌, ◌++◌, ap, ◌∙◌, sym}
+use Rattle.std.proofs.Common.{◌++◌, ap, ◌∙◌}
 use Rattle.pebble_cli.specs.ReportText.{report_text}
 use Rattle.pebble_cli.specs.CodeText.{code_text}
 use Rattle.pebble_cli.specs.PlanCode.{plain_code}
