@@ -3,6 +3,7 @@ use crate::program::{run, words_of};
 use desk_io::{Fail, Kind};
 use pebble_cli::Status;
 use std::alloc::{AllocError, Global};
+use std::process::Abort;
 use std::test::Fail as TestFail;
 
 /// The kernel y = x + 1.
@@ -18,8 +19,8 @@ const P_TABLE: [u8; 18] = [82, 66, 80, 84, 0, 1, 0, 2, 0, 2, 0, 0, 0, 2, 0, 0, 0
 const USAGE: &str =
     "usage: pebble plan S TABLE [BUDGET], check S TABLE, run VALUES, exec VALUES, graph, trial N S TABLE\n";
 
-/// Words, a kernel, and the status, the printed text and the table that they give; `old` is the file as it was.
-#[derive(Drop)]
+/// Words, a kernel, and the status, the printed text and the file that they give; the file holds `old` before.
+#[derive(Clone, Copy)]
 struct Row {
     words: &'static str,
     kernel: &'static str,
@@ -28,130 +29,194 @@ struct Row {
     table: &'static [u8],
 }
 
+const ROWS: [Row; 7] = [
+    Row {
+        words: "plan 2 t 0",
+        kernel: P,
+        status: Status::Optimal,
+        printed: P_PRINTED,
+        table: &P_TABLE,
+    },
+    Row {
+        words: "plan 1 t 0",
+        kernel: "kernel w { in x; out y; y = x; }",
+        status: Status::Optimal,
+        printed: "; kernel w\n; vertices 1\n; inputs 1\n; degree 0\n; slots 1\n; first 0\n; cost 0\n; bound 0\n; expanded 0\n; budget 0\n; verdict Optimal\nslots 1\nwords 1\nin x\nout y 0\nend\n",
+        table: &[82, 66, 80, 84, 0, 1, 0, 1, 0, 1, 0, 0, 0, 0, 0, 0, 0, 0],
+    },
+    Row {
+        words: "plan 2 t 0",
+        kernel: "kernel q { in x; out y; y = x*x; }",
+        status: Status::Optimal,
+        printed: "; kernel q\n; vertices 2\n; inputs 1\n; degree 1\n; slots 2\n; first 2\n; cost 2\n; bound 2\n; expanded 0\n; budget 0\n; verdict Optimal\nslots 2\nwords 2\nin x\nout y 1\nload 0 0\nmul 1 s0 s0\nstore 1 1\nend\n",
+        table: &P_TABLE,
+    },
+    Row {
+        words: "plan 1 t 0",
+        kernel: "kernel e { }",
+        status: Status::Optimal,
+        printed: "; kernel e\n; vertices 0\n; inputs 0\n; degree 0\n; slots 1\n; first 0\n; cost 0\n; bound 0\n; expanded 0\n; budget 0\n; verdict Optimal\nslots 1\nwords 0\nend\n",
+        table: &[82, 66, 80, 84, 0, 1, 0, 0, 0, 1, 0, 0, 0, 0, 0, 0, 0, 0],
+    },
+    Row {
+        words: "plan 2 t 0",
+        kernel: "kernel s { in x; out y; tmp t; t = x + 1; y = t * 3; }",
+        status: Status::Open,
+        printed: "; kernel s\n; vertices 3\n; inputs 1\n; degree 1\n; slots 2\n; first 4\n; cost 4\n; bound 2\n; expanded 0\n; budget 0\n; verdict Open\nslots 2\nwords 3\nin x\nout y 2\nload 0 0\nadd 1 s0 #1\nstore 1 1\nload 0 1\nmul 1 s0 #3\nstore 1 2\nend\n",
+        table: &[82, 66, 80, 84, 0, 1, 0, 3, 0, 2, 0, 0, 0, 2, 0, 0, 0, 0],
+    },
+    Row {
+        words: "plan 1 t 0",
+        kernel: P,
+        status: Status::TooSmall,
+        printed: "too small needs 2\n",
+        table: b"old",
+    },
+    Row {
+        words: "plan 1 t 0",
+        kernel: "kernel c { out y; y = 2*3+1; }",
+        status: Status::Kernel,
+        printed: "kernel fault K0 at 0\n",
+        table: b"old",
+    },
+];
+
 #[test]
 fn plans_and_refusals(rt: HostRuntime) -> Result<(), TestFail> {
-    let rows = [
-        Row {
-            words: "plan 2 t 0",
-            kernel: P,
-            status: Status::Optimal,
-            printed: P_PRINTED,
-            table: &P_TABLE,
-        },
-        Row {
-            words: "plan 1 t 0",
-            kernel: "kernel w { in x; out y; y = x; }",
-            status: Status::Optimal,
-            printed: "; kernel w\n; vertices 1\n; inputs 1\n; degree 0\n; slots 1\n; first 0\n; cost 0\n; bound 0\n; expanded 0\n; budget 0\n; verdict Optimal\nslots 1\nwords 1\nin x\nout y 0\nend\n",
-            table: &[82, 66, 80, 84, 0, 1, 0, 1, 0, 1, 0, 0, 0, 0, 0, 0, 0, 0],
-        },
-        Row {
-            words: "plan 2 t 0",
-            kernel: "kernel q { in x; out y; y = x*x; }",
-            status: Status::Optimal,
-            printed: "; kernel q\n; vertices 2\n; inputs 1\n; degree 1\n; slots 2\n; first 2\n; cost 2\n; bound 2\n; expanded 0\n; budget 0\n; verdict Optimal\nslots 2\nwords 2\nin x\nout y 1\nload 0 0\nmul 1 s0 s0\nstore 1 1\nend\n",
-            table: &P_TABLE,
-        },
-        Row {
-            words: "plan 1 t 0",
-            kernel: "kernel e { }",
-            status: Status::Optimal,
-            printed: "; kernel e\n; vertices 0\n; inputs 0\n; degree 0\n; slots 1\n; first 0\n; cost 0\n; bound 0\n; expanded 0\n; budget 0\n; verdict Optimal\nslots 1\nwords 0\nend\n",
-            table: &[82, 66, 80, 84, 0, 1, 0, 0, 0, 1, 0, 0, 0, 0, 0, 0, 0, 0],
-        },
-        Row {
-            words: "plan 2 t 0",
-            kernel: "kernel s { in x; out y; tmp t; t = x + 1; y = t * 3; }",
-            status: Status::Open,
-            printed: "; kernel s\n; vertices 3\n; inputs 1\n; degree 1\n; slots 2\n; first 4\n; cost 4\n; bound 2\n; expanded 0\n; budget 0\n; verdict Open\nslots 2\nwords 3\nin x\nout y 2\nload 0 0\nadd 1 s0 #1\nstore 1 1\nload 0 1\nmul 1 s0 #3\nstore 1 2\nend\n",
-            table: &[82, 66, 80, 84, 0, 1, 0, 3, 0, 2, 0, 0, 0, 2, 0, 0, 0, 0],
-        },
-        Row {
-            words: "plan 1 t 0",
-            kernel: P,
-            status: Status::TooSmall,
-            printed: "too small needs 2\n",
-            table: b"old",
-        },
-        Row {
-            words: "plan 1 t 0",
-            kernel: "kernel c { out y; y = 2*3+1; }",
-            status: Status::Kernel,
-            printed: "kernel fault K0 at 0\n",
-            table: b"old",
-        },
-    ];
-    for row in &rows {
-        let words = words_of(rt.alloc(), row.words)?;
-        let left = run(rt.alloc(), &words, row.kernel.as_bytes(), 4096, None)?;
-        assert_eq!(rt; left.status, row.status, "{}", row.kernel);
-        assert_eq!(rt;
-            left.output.as_slice(),
-            row.printed.as_bytes(),
-            "{}",
-            row.kernel
-        );
-        assert_eq!(rt; left.file.as_deref(), Some(row.table), "{}", row.kernel);
+    for row in ROWS {
+        check_row(&rt, rt.alloc(), row)?;
     }
     Ok(())
 }
+
+// The words and the kernel of a row give what the row says.
+fn check_row(rt: &impl Abort, alloc: Global, row: Row) -> Result<(), TestFail> {
+    let words = words_of(alloc, row.words)?;
+    let left = run(alloc, &words, row.kernel.as_bytes(), 4096, None)?;
+    let bytes = row.kernel.len();
+    assert_eq!(rt; left.status, row.status, "a kernel of {bytes} bytes");
+    assert_eq!(rt; left.output.as_slice(), row.printed.as_bytes());
+    let file = left.file.ok_or("no file")?;
+    assert_eq!(rt; file.as_slice(), row.table);
+    Ok(())
+}
+
+/// Words that spell no command.
+const USAGES: [&str; 16] = [
+    "plan 0 t 0",
+    "plan 02 t 0",
+    "plan 65 t 0",
+    "plan 2 t 00",
+    "plan 2 t 1",
+    "plan 2 t 150001",
+    "plan 2 t",
+    "plan 2",
+    "plan 2 t 0 0",
+    "trial 201 3 t",
+    "check 65 t",
+    "graph",
+    "run v",
+    "exec v",
+    "--help",
+    "",
+];
 
 #[test]
 fn words_that_are_usage(rt: HostRuntime) -> Result<(), TestFail> {
-    let lines = [
-        "plan 0 t 0",
-        "plan 02 t 0",
-        "plan 65 t 0",
-        "plan 2 t 00",
-        "plan 2 t 1",
-        "plan 2 t 150001",
-        "plan 2 t",
-        "plan 2",
-        "plan 2 t 0 0",
-        "trial 201 3 t",
-        "check 65 t",
-        "graph",
-        "run v",
-        "exec v",
-        "--help",
-        "",
-    ];
-    for line in lines {
-        let words = words_of(rt.alloc(), line)?;
-        let left = run(rt.alloc(), &words, P.as_bytes(), 4096, None)?;
-        assert_eq!(rt; left.status, Status::Usage, "{line}");
-        assert_eq!(rt; left.output.as_slice(), USAGE.as_bytes(), "{line}");
-        assert_eq!(rt; left.file.as_deref(), Some(b"old".as_slice()), "{line}");
+    for words in USAGES {
+        let row = Row {
+            words,
+            kernel: P,
+            status: Status::Usage,
+            printed: USAGE,
+            table: b"old",
+        };
+        check_row(&rt, rt.alloc(), row)?;
     }
     Ok(())
 }
 
+/// A call that fails, counted from 0 in its kind, and the status, the output and the file that are left, over a desk that moves a
+/// byte a call.
+#[derive(Clone, Copy)]
+struct Failure {
+    kind: Kind,
+    nth: u32,
+    status: Status,
+    output: &'static [u8],
+    file: &'static [u8],
+}
+
+const FAILURES: [Failure; 5] = [
+    Failure {
+        kind: Kind::TakeInput,
+        nth: 0,
+        status: Status::ReadFault,
+        output: b"",
+        file: b"old",
+    },
+    Failure {
+        kind: Kind::ClearFile,
+        nth: 0,
+        status: Status::WriteFault,
+        output: b"",
+        file: b"old",
+    },
+    Failure {
+        kind: Kind::PutFile,
+        nth: 2,
+        status: Status::WriteFault,
+        output: b"",
+        file: b"RB",
+    },
+    Failure {
+        kind: Kind::PutOutput,
+        nth: 0,
+        status: Status::WriteFault,
+        output: b"",
+        file: &P_TABLE,
+    },
+    Failure {
+        kind: Kind::PutOutput,
+        nth: 3,
+        status: Status::WriteFault,
+        output: b"; k",
+        file: &P_TABLE,
+    },
+];
+
 #[test]
 fn desks_that_fail(rt: HostRuntime) -> Result<(), TestFail> {
-    let words = words_of(rt.alloc(), "plan 2 t 0")?;
-    let rows: [(Kind, u32, Status, &[u8], &[u8]); 5] = [
-        (Kind::TakeInput, 0, Status::ReadFault, b"", b"old"),
-        (Kind::ClearFile, 0, Status::WriteFault, b"", b"old"),
-        (Kind::PutFile, 2, Status::WriteFault, b"", b"RB"),
-        (Kind::PutOutput, 0, Status::WriteFault, b"", &P_TABLE),
-        (Kind::PutOutput, 3, Status::WriteFault, b"; k", &P_TABLE),
-    ];
-    for (kind, nth, status, output, file) in rows {
-        let left = run(
-            rt.alloc(),
-            &words,
-            P.as_bytes(),
-            1,
-            Some(Fail { kind, nth }),
-        )?;
-        assert_eq!(rt; left.status, status, "{kind:?} {nth}");
-        assert_eq!(rt; left.output.as_slice(), output, "{kind:?} {nth}");
-        assert_eq!(rt; left.file.as_deref(), Some(file), "{kind:?} {nth}");
+    for failure in FAILURES {
+        let fail = Fail {
+            kind: failure.kind,
+            nth: failure.nth,
+        };
+        check_failure(&rt, rt.alloc(), Some(fail), failure)?;
     }
-    let left = run(rt.alloc(), &words, P.as_bytes(), 1, None)?;
-    assert_eq!(rt; left.status, Status::Optimal);
-    assert_eq!(rt; left.output.as_slice(), P_PRINTED.as_bytes());
-    assert_eq!(rt; left.file.as_deref(), Some(P_TABLE.as_slice()));
+    let whole = Failure {
+        kind: Kind::TakeInput,
+        nth: 0,
+        status: Status::Optimal,
+        output: P_PRINTED.as_bytes(),
+        file: &P_TABLE,
+    };
+    check_failure(&rt, rt.alloc(), None, whole)
+}
+
+// Where this call fails, or none, a run on the kernel y = x + 1 leaves what is said.
+fn check_failure(
+    rt: &impl Abort,
+    alloc: Global,
+    fail: Option<Fail>,
+    wanted: Failure,
+) -> Result<(), TestFail> {
+    let words = words_of(alloc, "plan 2 t 0")?;
+    let left = run(alloc, &words, P.as_bytes(), 1, fail)?;
+    assert_eq!(rt; left.status, wanted.status, "{}", wanted.nth);
+    assert_eq!(rt; left.output.as_slice(), wanted.output);
+    let file = left.file.ok_or("no file")?;
+    assert_eq!(rt; file.as_slice(), wanted.file);
     Ok(())
 }
 
