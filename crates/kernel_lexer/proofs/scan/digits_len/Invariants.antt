@@ -1,0 +1,11 @@
+-- The digits counted so far and the run of those that are left make the run of digits.
+use Rattle.std.proofs.Common.{◌≡◌, ◌+◌, ◌-◌, ◌≤◌, length, drop}
+use Rattle.kernel_lexer.specs.Spelling as spelling
+use Rattle.kernel_lexer.specs.Cutting as cutting
+use Rattle.kernel_lexer.proofs.scan.digits_len.Given as goal
+
+abbrev pub invariant-loop-len : goal.invariant-loop-len
+invariant-loop-len l = (l.len ≤ length l.rest) × (l.len + length (cutting.run spelling.is_digit (drop l.len l.rest)) ≡ length (cutting.run spelling.is_digit l.rest))
+
+abbrev pub decreases-loop-len : goal.decreases-loop-len
+decreases-loop-len l = length l.rest - l.len

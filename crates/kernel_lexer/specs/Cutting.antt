@@ -1,0 +1,51 @@
+-- What the steps of the lexer say of the characters that are left.
+use Rattle.std.specs.Str.{chars}
+use Rattle.std.specs.Prelude.{◌≡◌, ℕ, Bool, true, false, ◌||◌, ◌==◌, if◌then◌else◌, List, [], ◌∷◌, ◌++◌, length, Some, is_some}
+use Rattle.kernel_lexer.specs.declared.cut.Cut.{Cut}
+use Rattle.kernel_lexer.specs.declared.cut.Cut.TheVariants.{Token, NoToken}
+use Rattle.kernel_lexer.specs.declared.lex_end.LexEnd.{LexEnd}
+use Rattle.kernel_lexer.specs.declared.lex_end.LexEnd.TheVariants as ends
+use Rattle.kernel_lexer.specs.Spelling.{Text, bytes, starts, is_digit, mark_of, Longest, kind_of}
+use Rattle.kernel_lexer.specs.Lexing.{IsFaultOf}
+use Rattle.kernel_lexer.specs.Texts.{IsFirstFault}
+
+-- the longest front whose characters pass
+abbrev pub run : (ℕ → Bool) → Text → Text
+run p [] = []
+run p (c ∷ cs) = if p c then c ∷ run p cs else []
+
+-- what is behind it
+abbrev pub past : (ℕ → Bool) → Text → Text
+past p [] = []
+past p (c ∷ cs) = if p c then past p cs else c ∷ cs
+
+-- whether a character begins a sign
+abbrev pub begins_sign : ℕ → Bool
+begins_sign c = is_some (mark_of c) || c == 46
+
+-- a word begins, and neither a number nor a sign
+abbrev pub BeginsWord : Text → Type 0
+BeginsWord text = (c : ℕ) × (tail : Text) × (text ≡ c ∷ tail) × (starts c ≡ true) × (is_digit c ≡ false) × (begins_sign c ≡ false)
+
+-- a number begins, and neither a word nor a sign
+abbrev pub BeginsNumber : Text → Type 0
+BeginsNumber text = (c : ℕ) × (tail : Text) × (text ≡ c ∷ tail) × (starts c ≡ false) × (is_digit c ≡ true) × (begins_sign c ≡ false)
+
+-- neither a word nor a number begins
+abbrev pub BeginsOther : Text → Type 0
+BeginsOther text = (c : ℕ) × (tail : Text) × (text ≡ c ∷ tail) × (starts c ≡ false) × (is_digit c ≡ false)
+
+-- what a cut says of what is left
+abbrev pub IsCut : Text → Cut → Type 0
+IsCut left (Token kind len) = (rest : Text) × (word : Text) × (left ≡ word ++ rest) × (length word ≡ len) × Longest word rest × (kind_of word ≡ Some kind)
+IsCut left (NoToken fault) = IsFaultOf fault left
+
+-- what the end of characters without tokens means
+abbrev pub EndMeans : Text → LexEnd → Type 0
+EndMeans text ends.NoMemory = Unit {0}
+EndMeans text (ends.Fault code at) = IsFirstFault (bytes text) text code at
+
+-- the same of a front of a text
+abbrev pub FrontEnd : List ℕ → LexEnd → Type 0
+FrontEnd front ends.NoMemory = Unit {0}
+FrontEnd front (ends.Fault code at) = IsFirstFault (length front) (chars front) code at

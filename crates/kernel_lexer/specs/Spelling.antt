@@ -1,0 +1,111 @@
+-- How a token is spelled, and what a spelling stands for, on the characters of a text. This project's convention.
+use Rattle.std.specs.Prelude.{◌≡◌, ℕ, ◌+◌, ◌-◌, ◌*◌, ◌^◌, Bool, true, false, ◌&&◌, ◌||◌, ◌==◌, nat_le, nat_lt, if◌then◌else◌, List, [], ◌∷◌, ◌++◌, length, fold, Option, Some, None, codes, pos, is_some}
+use Rattle.std.specs.Str.{encode_utf8_all, bytes_eq}
+use Rattle.unicode_ident.specs.Ident.{is_xid_start, is_xid_continue}
+use Rattle.kernel_lexer.specs.declared.token.Keyword.{Keyword}
+use Rattle.kernel_lexer.specs.declared.token.Keyword.TheVariants.{Kernel, Input, Output, Temp, Loop, Min, Max, Sel, Mad, If, Else, By}
+use Rattle.kernel_lexer.specs.declared.token.Mark.{Mark}
+use Rattle.kernel_lexer.specs.declared.token.Mark.TheVariants.{OpenBrace, CloseBrace, OpenBracket, CloseBracket, OpenParen, CloseParen, Semicolon, Comma, Assign, Dots, Plus, Minus, Star, And, Or, Xor}
+use Rattle.kernel_lexer.specs.declared.token.TokenKind.{TokenKind}
+use Rattle.kernel_lexer.specs.declared.token.TokenKind.TheVariants.{Name, Number, Word, Sign}
+
+-- characters, each as its number
+abbrev pub Text : Type 0
+Text = List ℕ
+
+-- how many bytes the characters have in UTF-8
+abbrev pub bytes : Text → ℕ
+bytes w = length (encode_utf8_all w)
+
+-- ---- the three classes of tokens
+
+-- a digit from 0 to 9
+abbrev pub is_digit : ℕ → Bool
+is_digit c = nat_le 48 c && nat_le c 57
+
+-- a word begins with `_` or a character of XID_Start
+abbrev pub starts : ℕ → Bool
+starts c = is_xid_start c || c == 95
+
+-- a word goes on with characters of XID_Continue
+abbrev pub continues : ℕ → Bool
+continues c = is_xid_continue c
+
+-- whether each character passes
+abbrev pub all : (ℕ → Bool) → Text → Bool
+all p [] = true
+all p (c ∷ cs) = p c && all p cs
+
+-- a name or a reserved word
+abbrev pub is_word : Text → Bool
+is_word [] = false
+is_word (c ∷ cs) = starts c && all continues cs
+
+-- one digit or more
+abbrev pub is_digits : Text → Bool
+is_digits [] = false
+is_digits (c ∷ cs) = all is_digit (c ∷ cs)
+
+-- what stands beside the first key that passes
+abbrev pub look_up : {K V : Type 0} → (K → Bool) → List (K × V) → Option V
+look_up p [] = None
+look_up p (e ∷ es) = if p e.0 then Some e.1 else look_up p es
+
+-- the signs of one character: { } [ ] ( ) ; , = + - * & | ^
+abbrev pub signs : List (ℕ × Mark)
+signs =
+    (123, OpenBrace) ∷ (125, CloseBrace) ∷ (91, OpenBracket) ∷ (93, CloseBracket) ∷ (40, OpenParen) ∷ (41, CloseParen) ∷ (59, Semicolon) ∷ (44, Comma)
+    ∷ (61, Assign) ∷ (43, Plus) ∷ (45, Minus) ∷ (42, Star) ∷ (38, And) ∷ (124, Or) ∷ (94, Xor) ∷ []
+
+-- the sign of one character
+abbrev pub mark_of : ℕ → Option Mark
+mark_of c = look_up (λ k. c == k) signs
+
+-- the sign that characters spell: one of those, or two points
+abbrev pub sign_of : Text → Option Mark
+sign_of [] = None
+sign_of (c ∷ []) = mark_of c
+sign_of (c ∷ d ∷ []) = if (c == 46) && (d == 46) then Some Dots else None
+sign_of (c ∷ d ∷ e ∷ cs) = None
+
+-- the characters of a token: a word, digits or a sign
+abbrev pub is_spelling : Text → Bool
+is_spelling w = is_word w || (is_digits w || is_some (sign_of w))
+
+-- The word is a token, and with more of what follows it is none.
+pub record Longest (word rest : Text) : Type 0 where
+  pub is : is_spelling word ≡ true
+  pub longest : (more after : Text) → rest ≡ more ++ after → is_spelling (word ++ more) ≡ true → more ≡ []
+
+-- ---- what a spelling stands for
+
+-- the number that decimal digits stand for; zeros may lead
+abbrev pub value : Text → ℕ
+value = fold (λ n d. 10 * n + (d - 48)) 0
+
+-- the reserved words
+abbrev pub reserved : List (Text × Keyword)
+reserved =
+    (codes "kernel", Kernel) ∷ (codes "in", Input) ∷ (codes "out", Output) ∷ (codes "tmp", Temp) ∷ (codes "for", Loop) ∷ (codes "min", Min)
+    ∷ (codes "max", Max) ∷ (codes "sel", Sel) ∷ (codes "mad", Mad) ∷ (codes "if", If) ∷ (codes "else", Else) ∷ (codes "by", By) ∷ []
+
+-- the reserved word that characters spell
+abbrev pub keyword : Text → Option Keyword
+keyword w = look_up (λ k. bytes_eq w k) reserved
+
+-- a word that is not reserved is a name
+abbrev pub named : Option Keyword → TokenKind
+named None = Name
+named (Some k) = Word k
+
+-- a sign as a token
+abbrev pub signed : Option Mark → Option TokenKind
+signed None = None
+signed (Some m) = Some (Sign m)
+
+-- What a spelling stands for, unless it is too big: a number is below 2 ^ 63, and a word has at most 64 bytes.
+abbrev pub kind_of : Text → Option TokenKind
+kind_of w =
+    if is_digits w then (if nat_lt (value w) (2 ^ 63) then Some (Number (pos (value w))) else None)
+    else (if is_word w then (if nat_le (bytes w) 64 then Some (named (keyword w)) else None)
+    else signed (sign_of w))
