@@ -1,0 +1,4 @@
+pub mod Numbers
+pub mod Machines
+pub mod Trees
+pub mod Examples

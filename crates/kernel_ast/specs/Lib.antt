@@ -1,0 +1,12 @@
+pub mod KernelParts
+pub mod KernelView
+pub mod Names
+pub mod Weights
+pub mod WellFormed
+pub mod Steps
+pub mod Places
+pub mod Walk
+pub mod Machine
+pub mod Meaning
+pub mod Labels
+pub mod KernelGraph
