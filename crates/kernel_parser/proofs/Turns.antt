@@ -1,0 +1,109 @@
+-- What a function of the parser owes at its choices and in its loops.
+use Rattle.std.proofs.Common.{◌≡◌, ℕ, zero, suc, ◌-◌, ◌<◌, ◌≤◌, Bool, true, false, cond, List, [], ◌∷◌, ◌++◌, length, Option, refl, sym, ap, ◌∙◌, arith}
+use Rattle.kernel_lexer.specs.declared.token.Keyword.TheVariants as w
+use Rattle.kernel_lexer.specs.declared.token.Token.{Token}
+use Rattle.kernel_parser.specs.Tokens.{word, is_operator, opens_index, opens, is_role, starts}
+use Rattle.kernel_parser.specs.Trees as tree
+use Rattle.kernel_parser.specs.Grammar as rule
+use Rattle.kernel_parser.specs.Parsing.{linked, chained, ranked, index_leaf, index_opened, index_unary, leaf, opened, unary, assigned, looped, statement, declared}
+use Rattle.kernel_parser.proofs.Chains.{After, after_place, any_passes, place_passes, ranked_step}
+use Rattle.kernel_parser.proofs.IndexSteps.{index_unary_step}
+use Rattle.kernel_parser.proofs.ExprSteps.{unary_step}
+use Rattle.kernel_parser.proofs.StatementSteps.{statement_begins, statement_step}
+use Rattle.kernel_parser.proofs.KernelSteps.{declared_begins, declared_step}
+use Rattle.word_grammar.specs.declared.fault.Fault.TheVariants.{TooDeep}
+use Rattle.word_grammar.specs.Phrases.{Phrase}
+use Rattle.word_grammar.specs.Readers.{Got, Bad, Reader, first, sees, one, deep, either, many, with_front}
+use Rattle.word_grammar.proofs.Parts.{Sound}
+use Rattle.word_grammar.proofs.Steps.{any}
+use Rattle.word_grammar.proofs.Loops.{Shrinks, many_turn, many_done, sound_shrinks, link_shrinks, link_read}
+
+-- ---- choices
+
+module _ {A : Type 0} (test : Option Token → Bool) (p q : Reader Token A) (ts : List Token) where
+  either_first : test (first ts) ≡ true → either test p q ts ≡ p ts
+  either_first e = ap (λ b. cond b (p ts) (q ts)) e
+
+  either_second : test (first ts) ≡ false → either test p q ts ≡ q ts
+  either_second e = ap (λ b. cond b (p ts) (q ts)) e
+
+pub index_unary_leaf : (d : ℕ) (ts : List Token) → sees opens_index (first ts) ≡ false → index_unary d ts ≡ index_leaf ts
+index_unary_leaf zero ts e = either_second (sees opens_index) deep index_leaf ts e
+index_unary_leaf (suc d) ts e = either_second (sees opens_index) (index_opened (index_unary d)) index_leaf ts e
+
+pub index_unary_deep : (ts : List Token) → sees opens_index (first ts) ≡ true → index_unary 0 ts ≡ Bad TooDeep ts
+index_unary_deep ts e = either_first (sees opens_index) deep index_leaf ts e
+
+pub index_unary_opened : (d : ℕ) (ts : List Token) → 0 < d → sees opens_index (first ts) ≡ true → index_unary d ts ≡ index_opened (index_unary (d - 1)) ts
+index_unary_opened zero ts h e = absurd (omega arith)
+index_unary_opened (suc d) ts h e =
+    let same : suc d - 1 ≡ d = omega arith in
+    either_first (sees opens_index) (index_opened (index_unary d)) index_leaf ts e ∙ ap (λ n. index_opened (index_unary n) ts) (sym same)
+
+pub unary_leaf : (d : ℕ) (ts : List Token) → sees opens (first ts) ≡ false → unary d ts ≡ leaf d ts
+unary_leaf zero ts e = either_second (sees opens) deep (leaf 0) ts e
+unary_leaf (suc d) ts e = either_second (sees opens) (opened (unary d)) (leaf (suc d)) ts e
+
+pub unary_deep : (ts : List Token) → sees opens (first ts) ≡ true → unary 0 ts ≡ Bad TooDeep ts
+unary_deep ts e = either_first (sees opens) deep (leaf 0) ts e
+
+pub unary_opened : (d : ℕ) (ts : List Token) → 0 < d → sees opens (first ts) ≡ true → unary d ts ≡ opened (unary (d - 1)) ts
+unary_opened zero ts h e = absurd (omega arith)
+unary_opened (suc d) ts h e =
+    let same : suc d - 1 ≡ d = omega arith in
+    either_first (sees opens) (opened (unary d)) (leaf (suc d)) ts e ∙ ap (λ n. opened (unary n) ts) (sym same)
+
+pub statement_assigned : (d : ℕ) (ts : List Token) → sees (word w.Loop) (first ts) ≡ false → statement d ts ≡ assigned d ts
+statement_assigned zero ts e = either_second (sees (word w.Loop)) deep (assigned 0) ts e
+statement_assigned (suc d) ts e = either_second (sees (word w.Loop)) (looped d (statement d)) (assigned (suc d)) ts e
+
+pub statement_deep : (ts : List Token) → sees (word w.Loop) (first ts) ≡ true → statement 0 ts ≡ Bad TooDeep ts
+statement_deep ts e = either_first (sees (word w.Loop)) deep (assigned 0) ts e
+
+pub statement_looped : (d : ℕ) (ts : List Token) → 0 < d → sees (word w.Loop) (first ts) ≡ true → statement d ts ≡ looped (d - 1) (statement (d - 1)) ts
+statement_looped zero ts h e = absurd (omega arith)
+statement_looped (suc d) ts h e =
+    let same : suc d - 1 ≡ d = omega arith in
+    either_first (sees (word w.Loop)) (looped d (statement d)) (assigned (suc d)) ts e ∙ ap (λ n. looped n (statement n) ts) (sym same)
+
+-- ---- levels of operators
+
+-- the links of a chain
+abbrev pub links : {E L : Type 0} → (Token × E → L) → ℕ → Reader Token E → Reader Token (List L)
+links link rank p = many (sees (is_operator rank)) (linked link rank p)
+
+module _ {E L : Type 0} (link : Token × E → L) (chain : E × List L → E) where
+  -- the highest level of operators
+  pub ranked_chained : (rank : ℕ) (p : Reader Token E) (ts : List Token) → 0 < rank → ranked link chain rank p ts ≡ chained link chain rank (ranked link chain (rank - 1) p) ts
+  ranked_chained zero p ts h = absurd (omega arith)
+  ranked_chained (suc rank) p ts h =
+      let same : suc rank - 1 ≡ rank = omega arith in
+      ap (λ n. chained link chain (suc rank) (ranked link chain n p) ts) (sym same)
+
+  module _ (rank : ℕ) (F : Option Token → Bool) (p : Reader Token E) (R : Phrase Token E) (s : Sound F p R) where
+    -- a turn of the loop takes tokens
+    pub link_less : (ts mid rest : List Token) (t : Token) (e : E) → one (is_operator rank) ts ≡ Got t mid → p mid ≡ Got e rest → length rest < length ts
+    link_less ts mid rest t e h k = link_shrinks (is_operator rank) link F p R s ts (link (t, e)) rest (link_read (is_operator rank) link p ts mid rest t e h k)
+
+    pub link_turn : (found : List L) (ts mid rest : List Token) (t : Token) (e : E) → sees (is_operator rank) (first ts) ≡ true → one (is_operator rank) ts ≡ Got t mid → p mid ≡ Got e rest → with_front found (links link rank p ts) ≡ with_front (found ++ link (t, e) ∷ []) (links link rank p rest)
+    link_turn found ts mid rest t e h k l = many_turn (sees (is_operator rank)) (linked link rank p) refl (link_shrinks (is_operator rank) link F p R s) found ts (link (t, e)) rest h (link_read (is_operator rank) link p ts mid rest t e k l)
+
+  -- a chain that the loop has read
+  pub chain_read : (rank : ℕ) (p : Reader Token E) (ts mid rest : List Token) (e : E) (found : List L) → p ts ≡ Got e mid → with_front found (links link rank p rest) ≡ links link rank p mid → sees (is_operator rank) (first rest) ≡ false → chained link chain rank p ts ≡ Got (chain (e, found)) rest
+  chain_read rank p ts mid rest e found h k l =
+      let m : links link rank p mid ≡ Got found rest = sym k ∙ many_done (sees (is_operator rank)) (linked link rank p) refl found rest l in
+      rw (h) (rw (m) refl)
+
+pub index_ranked_sound : (rank d : ℕ) → rank ≤ 5 → Sound (After any rank) (ranked tree.index_link tree.index_chain rank (index_unary d)) (rule.Ranked tree.index_link tree.index_chain rank (rule.IndexUnary d))
+index_ranked_sound rank d h = (ranked_step tree.index_link tree.index_chain TooDeep any any_passes rank h (index_unary_step TooDeep d d refl)).low.sound
+
+pub ranked_sound : (rank d : ℕ) → rank ≤ 5 → Sound (After after_place rank) (ranked tree.link tree.chain rank (unary d)) (rule.Ranked tree.link tree.chain rank (rule.Unary d))
+ranked_sound rank d h = (ranked_step tree.link tree.chain TooDeep after_place place_passes rank h (unary_step TooDeep d d refl)).low.sound
+
+-- ---- lists
+
+pub statement_shrinks : (d : ℕ) → Shrinks (statement d)
+statement_shrinks d = sound_shrinks (sees starts) any (statement d) (rule.Statement d) refl (statement_begins d) (statement_step TooDeep d d refl).low.sound
+
+pub declared_shrinks : Shrinks declared
+declared_shrinks = sound_shrinks (sees is_role) any declared rule.Declared refl declared_begins (declared_step TooDeep).low.sound

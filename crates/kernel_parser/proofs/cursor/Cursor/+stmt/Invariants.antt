@@ -1,0 +1,21 @@
+use Rattle.std.proofs.Common.{◌≡◌, ◌+◌, ◌*◌, length}
+use Rattle.kernel_parser.specs.Tokens as token
+use Rattle.kernel_parser.specs.Parsing as spec
+use Rattle.kernel_parser.specs.Reading.{tokens_of}
+use Rattle.word_grammar.specs.Readers.{sees, with_front, many}
+use Rattle.kernel_parser.proofs.cursor.Cursor.+stmt.Given as goal
+
+abbrev pub decreases-statement : goal.decreases-statement
+decreases-statement l = 4 * l.levels
+
+abbrev pub decreases-looped : goal.decreases-looped
+decreases-looped l = 4 * l.levels + 2
+
+abbrev pub decreases-statements : goal.decreases-statements
+decreases-statements l = 4 * l.levels + 1
+
+abbrev pub invariant-statements-body : goal.invariant-statements-body
+invariant-statements-body l = with_front l.found (many (sees token.starts) (spec.statement l.levels) (tokens_of l.self)) ≡ many (sees token.starts) (spec.statement l.levels) (tokens_of l.fn.self)
+
+abbrev pub decreases-statements-body : goal.decreases-statements-body
+decreases-statements-body l = length (tokens_of l.self)

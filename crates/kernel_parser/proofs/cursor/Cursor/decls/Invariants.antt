@@ -1,0 +1,12 @@
+use Rattle.std.proofs.Common.{◌≡◌, length}
+use Rattle.kernel_parser.specs.Tokens as token
+use Rattle.kernel_parser.specs.Parsing as spec
+use Rattle.kernel_parser.specs.Reading.{tokens_of}
+use Rattle.word_grammar.specs.Readers.{sees, with_front, many}
+use Rattle.kernel_parser.proofs.cursor.Cursor.decls.Given as goal
+
+abbrev pub invariant-decls : goal.invariant-decls
+invariant-decls l = with_front l.found (many (sees token.is_role) spec.declared (tokens_of l.self)) ≡ many (sees token.is_role) spec.declared (tokens_of l.fn.self)
+
+abbrev pub decreases-decls : goal.decreases-decls
+decreases-decls l = length (tokens_of l.self)

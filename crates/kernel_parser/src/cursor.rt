@@ -1,0 +1,86 @@
+//! The tokens that are left to read.
+ghost use Rattle.std.specs.Prelude.{◌≡◌};
+ghost use Rattle.kernel_parser.specs.Tokens as token;
+ghost use Rattle.kernel_parser.specs.Parsing as spec;
+ghost use Rattle.kernel_parser.specs.Reading.{Reads, tokens_of, place_of};
+ghost use Rattle.word_grammar.specs.Readers as readers;
+
+use crate::class::TokenClass;
+use kernel_lexer::token::{Mark, Token};
+use std::alloc::AllocError;
+use word_grammar::fault::Fault;
+
+/// Why reading stopped. At a fault the cursor stands before its token.
+#[derive(Debug, Drop)]
+pub enum Stop {
+    NoMemory,
+    Fault(Fault),
+}
+
+impl From<AllocError> for Stop {
+    ghost use Rattle.std.specs.Prelude.{◌≡◌};
+    ghost use Rattle.kernel_parser.specs.declared.cursor.Stop.TheVariants.{NoMemory};
+
+    ghost from_gives = { λ _ e. e ≡ NoMemory };
+
+    fn from(_: AllocError) -> Stop {
+        Stop::NoMemory
+    }
+}
+
+/// The tokens that are left.
+#[derive(Drop)]
+pub struct Cursor<'a> {
+    pub ahead: &'a [Token],
+}
+
+impl<'a> Cursor<'a> {
+    /// Whether there is a next token, and it is of the class.
+    pub fn sees(&self, class: TokenClass) -> bool
+        ensures { result ≡ readers.sees (token.passes class) (readers.first (tokens_of self.now)) }
+    {
+        match self.ahead {
+            [] => false,
+            [next, ..] => class.holds(*next),
+        }
+    }
+
+    /// Reads one token of the class.
+    pub fn expect(&mut self, class: TokenClass) -> Result<Token, Stop>
+        ensures { Reads (readers.one (token.passes class) (tokens_of self.old)) result (tokens_of self.new) }
+    {
+        match self.ahead {
+            [] => Err(Stop::Fault(Fault::Syntax)),
+            [next, rest @ ..] => {
+                if class.holds(*next) {
+                    self.ahead = rest;
+                    Ok(*next)
+                } else {
+                    Err(Stop::Fault(Fault::Syntax))
+                }
+            }
+        }
+    }
+
+    /// Reads one token of the class, behind which no bracket opens.
+    pub fn expect_last(&mut self, class: TokenClass) -> Result<Token, Stop>
+        ensures { Reads (spec.last (token.passes class) (tokens_of self.old)) result (tokens_of self.new) }
+    {
+        let token = self.expect(class)?;
+        if self.sees(TokenClass::Sign(Mark::OpenBracket)) {
+            Err(Stop::Fault(Fault::Syntax))
+        } else {
+            Ok(token)
+        }
+    }
+
+    /// The place of the next token, or of the text's end.
+    pub fn place(&self, end: u32) -> u32
+        ensures { result ≡ place_of end (tokens_of self.now) }
+    {
+        match self.ahead {
+            [] => end,
+            [next, ..] => next.from,
+        }
+    }
+}

@@ -1,0 +1,156 @@
+//! Reads expressions.
+ghost use Rattle.std.specs.Prelude.{◌≡◌, ◌<◌, ◌≤◌, ◌-◌, ℕ, IfOk};
+ghost use Rattle.kernel_parser.specs.Trees as tree;
+ghost use Rattle.kernel_parser.specs.Parsing as spec;
+ghost use Rattle.kernel_parser.specs.Reading.{Reads, tokens_of};
+
+use crate::class::{TokenClass, number_of, op_of};
+use crate::cursor::{Cursor, Stop};
+use crate::raw::{RawExpr, RawLink};
+use kernel_lexer::token::Mark;
+use sqlite_items::{Boxed, Items};
+use std::alloc::{AllocError, Global};
+use word_grammar::fault::Fault;
+
+/// The rank of `|`, the operator that binds least.
+const LOOSEST: u8 = 5;
+
+fn chained(alloc: Global, first: RawExpr, links: Items<RawLink>) -> Result<RawExpr, AllocError>
+    ensures { IfOk result (λ expr. expr ≡ tree.chain (first, links)) }
+{
+    if links.is_empty() {
+        Ok(first)
+    } else {
+        Ok(RawExpr::Chain(Boxed::new(alloc, first)?, links))
+    }
+}
+
+impl<'a> Cursor<'a> {
+    fn leaf(&mut self, alloc: Global, levels: usize) -> Result<RawExpr, Stop>
+        ensures { Reads (spec.leaf levels (tokens_of self.old)) result (tokens_of self.new) }
+    {
+        if self.sees(TokenClass::Number) {
+            let token = self.expect_last(TokenClass::Number)?;
+            Ok(RawExpr::Number(number_of(token.kind)))
+        } else {
+            let place = self.place_of(alloc, levels)?;
+            Ok(RawExpr::Place(place))
+        }
+    }
+
+    #[cycle(expr)]
+    fn unary(&mut self, alloc: Global, levels: usize) -> Result<RawExpr, Stop>
+        ensures { Reads (spec.unary levels (tokens_of self.old)) result (tokens_of self.new) }
+    {
+        if !self.sees(TokenClass::Part) {
+            self.leaf(alloc, levels)
+        } else if levels == 0 {
+            Err(Stop::Fault(Fault::TooDeep))
+        } else {
+            self.opened(alloc, levels - 1)
+        }
+    }
+
+    #[cycle(expr)]
+    fn opened(&mut self, alloc: Global, levels: usize) -> Result<RawExpr, Stop>
+        ensures { Reads (spec.opened (spec.unary levels) (tokens_of self.old)) result (tokens_of self.new) }
+    {
+        if self.sees(TokenClass::Sign(Mark::Minus)) {
+            let sign = self.expect(TokenClass::Sign(Mark::Minus))?;
+            let value = self.unary(alloc, levels)?;
+            Ok(RawExpr::Minus(Boxed::new(alloc, value)?, sign.from))
+        } else if self.sees(TokenClass::Sign(Mark::OpenParen)) {
+            self.group(alloc, levels)
+        } else if self.sees(TokenClass::Pair) {
+            self.pair(alloc, levels)
+        } else {
+            self.triple(alloc, levels)
+        }
+    }
+
+    #[cycle(expr)]
+    fn group(&mut self, alloc: Global, levels: usize) -> Result<RawExpr, Stop>
+        ensures { Reads (spec.group (spec.expr levels) (tokens_of self.old)) result (tokens_of self.new) }
+    {
+        self.expect(TokenClass::Sign(Mark::OpenParen))?;
+        let inner = self.ranked(alloc, levels, LOOSEST)?;
+        self.expect_last(TokenClass::Sign(Mark::CloseParen))?;
+        Ok(inner)
+    }
+
+    #[cycle(expr)]
+    fn pair(&mut self, alloc: Global, levels: usize) -> Result<RawExpr, Stop>
+        ensures { Reads (spec.pair (spec.expr levels) (tokens_of self.old)) result (tokens_of self.new) }
+    {
+        let word = self.expect(TokenClass::Pair)?;
+        self.expect(TokenClass::Sign(Mark::OpenParen))?;
+        let first = self.ranked(alloc, levels, LOOSEST)?;
+        self.expect(TokenClass::Sign(Mark::Comma))?;
+        let second = self.ranked(alloc, levels, LOOSEST)?;
+        self.expect_last(TokenClass::Sign(Mark::CloseParen))?;
+        let mut args = Items::new(alloc);
+        args.push(first)?;
+        args.push(second)?;
+        Ok(RawExpr::Call(op_of(word.kind), args, word.from))
+    }
+
+    #[cycle(expr)]
+    fn triple(&mut self, alloc: Global, levels: usize) -> Result<RawExpr, Stop>
+        ensures { Reads (spec.triple (spec.expr levels) (tokens_of self.old)) result (tokens_of self.new) }
+    {
+        let word = self.expect(TokenClass::Triple)?;
+        self.expect(TokenClass::Sign(Mark::OpenParen))?;
+        let first = self.ranked(alloc, levels, LOOSEST)?;
+        self.expect(TokenClass::Sign(Mark::Comma))?;
+        let second = self.ranked(alloc, levels, LOOSEST)?;
+        self.expect(TokenClass::Sign(Mark::Comma))?;
+        let third = self.ranked(alloc, levels, LOOSEST)?;
+        self.expect_last(TokenClass::Sign(Mark::CloseParen))?;
+        let mut args = Items::new(alloc);
+        args.push(first)?;
+        args.push(second)?;
+        args.push(third)?;
+        Ok(RawExpr::Call(op_of(word.kind), args, word.from))
+    }
+
+    /// The levels of operators up to the rank.
+    #[cycle(expr)]
+    fn ranked(&mut self, alloc: Global, levels: usize, rank: u8) -> Result<RawExpr, Stop>
+        requires { rank ≤ 5 }
+        ensures { Reads (spec.ranked tree.link tree.chain rank (spec.unary levels) (tokens_of self.old)) result (tokens_of self.new) }
+    {
+        if rank == 0 {
+            self.unary(alloc, levels)
+        } else {
+            self.chain(alloc, levels, rank)
+        }
+    }
+
+    #[cycle(expr)]
+    fn chain(&mut self, alloc: Global, levels: usize, rank: u8) -> Result<RawExpr, Stop>
+        requires some { 0 < rank }
+        requires known { rank ≤ 5 }
+        ensures { let below = spec.ranked tree.link tree.chain (rank - 1) (spec.unary levels) in
+            Reads (spec.chained tree.link tree.chain rank below (tokens_of self.old)) result (tokens_of self.new) }
+    {
+        let first = self.ranked(alloc, levels, rank - 1)?;
+        let mut links = Items::new(alloc);
+        'links: while self.sees(TokenClass::Operator(rank)) {
+            let sign = self.expect(TokenClass::Operator(rank))?;
+            let value = self.ranked(alloc, levels, rank - 1)?;
+            links.push(RawLink {
+                op: op_of(sign.kind),
+                value,
+                at: sign.from,
+            })?;
+        }
+        Ok(chained(alloc, first, links)?)
+    }
+
+    /// Reads an expression where so many parts may still be opened in one another.
+    pub fn expr(&mut self, alloc: Global, levels: usize) -> Result<RawExpr, Stop>
+        ensures { Reads (spec.expr levels (tokens_of self.old)) result (tokens_of self.new) }
+    {
+        self.ranked(alloc, levels, LOOSEST)
+    }
+}

@@ -1,0 +1,128 @@
+//! Reads indices of places and bounds of loops.
+ghost use Rattle.std.specs.Prelude.{◌≡◌, ◌<◌, ◌≤◌, ◌-◌, ℕ, IfOk};
+ghost use Rattle.kernel_parser.specs.Trees as tree;
+ghost use Rattle.kernel_parser.specs.Parsing as spec;
+ghost use Rattle.kernel_parser.specs.Reading.{Reads, tokens_of};
+
+use crate::class::{TokenClass, number_of, op_of, span};
+use crate::cursor::{Cursor, Stop};
+use crate::raw::{RawIndex, RawIndexLink, RawIndexTree};
+use kernel_lexer::token::Mark;
+use sqlite_items::{Boxed, Items};
+use std::alloc::{AllocError, Global};
+use word_grammar::fault::Fault;
+
+/// The rank of `+` and `-`, the operators that bind least in an index.
+const SUM: u8 = 2;
+
+fn chained(
+    alloc: Global,
+    first: RawIndex,
+    links: Items<RawIndexLink>,
+) -> Result<RawIndex, AllocError>
+    ensures { IfOk result (λ index. index ≡ tree.index_chain (first, links)) }
+{
+    if links.is_empty() {
+        return Ok(first);
+    }
+    let RawIndex { at, tree } = first;
+    Ok(RawIndex {
+        at,
+        tree: RawIndexTree::Chain(Boxed::new(alloc, tree)?, links),
+    })
+}
+
+impl<'a> Cursor<'a> {
+    fn index_leaf(&mut self) -> Result<RawIndex, Stop>
+        ensures { Reads (spec.index_leaf (tokens_of self.old)) result (tokens_of self.new) }
+    {
+        if self.sees(TokenClass::Number) {
+            let token = self.expect(TokenClass::Number)?;
+            Ok(RawIndex {
+                at: token.from,
+                tree: RawIndexTree::Number(number_of(token.kind)),
+            })
+        } else {
+            let token = self.expect(TokenClass::Name)?;
+            Ok(RawIndex {
+                at: token.from,
+                tree: RawIndexTree::Name(span(token)),
+            })
+        }
+    }
+
+    #[cycle(index)]
+    fn index_unary(&mut self, alloc: Global, levels: usize) -> Result<RawIndex, Stop>
+        ensures { Reads (spec.index_unary levels (tokens_of self.old)) result (tokens_of self.new) }
+    {
+        if !self.sees(TokenClass::IndexPart) {
+            self.index_leaf()
+        } else if levels == 0 {
+            Err(Stop::Fault(Fault::TooDeep))
+        } else {
+            self.index_opened(alloc, levels - 1)
+        }
+    }
+
+    #[cycle(index)]
+    fn index_opened(&mut self, alloc: Global, levels: usize) -> Result<RawIndex, Stop>
+        ensures { Reads (spec.index_opened (spec.index_unary levels) (tokens_of self.old)) result (tokens_of self.new) }
+    {
+        if self.sees(TokenClass::Sign(Mark::Minus)) {
+            let sign = self.expect(TokenClass::Sign(Mark::Minus))?;
+            let value = self.index_unary(alloc, levels)?;
+            Ok(RawIndex {
+                at: sign.from,
+                tree: RawIndexTree::Minus(Boxed::new(alloc, value.tree)?),
+            })
+        } else {
+            let open = self.expect(TokenClass::Sign(Mark::OpenParen))?;
+            let inner = self.index_ranked(alloc, levels, SUM)?;
+            self.expect(TokenClass::Sign(Mark::CloseParen))?;
+            Ok(RawIndex {
+                at: open.from,
+                tree: inner.tree,
+            })
+        }
+    }
+
+    /// The levels of operators up to the rank.
+    #[cycle(index)]
+    fn index_ranked(&mut self, alloc: Global, levels: usize, rank: u8) -> Result<RawIndex, Stop>
+        requires { rank ≤ 5 }
+        ensures { Reads (spec.ranked tree.index_link tree.index_chain rank (spec.index_unary levels) (tokens_of self.old)) result (tokens_of self.new) }
+    {
+        if rank == 0 {
+            self.index_unary(alloc, levels)
+        } else {
+            self.index_chain(alloc, levels, rank)
+        }
+    }
+
+    #[cycle(index)]
+    fn index_chain(&mut self, alloc: Global, levels: usize, rank: u8) -> Result<RawIndex, Stop>
+        requires some { 0 < rank }
+        requires known { rank ≤ 5 }
+        ensures { let below = spec.ranked tree.index_link tree.index_chain (rank - 1) (spec.index_unary levels) in
+            Reads (spec.chained tree.index_link tree.index_chain rank below (tokens_of self.old)) result (tokens_of self.new) }
+    {
+        let first = self.index_ranked(alloc, levels, rank - 1)?;
+        let mut links = Items::new(alloc);
+        'links: while self.sees(TokenClass::Operator(rank)) {
+            let sign = self.expect(TokenClass::Operator(rank))?;
+            let value = self.index_ranked(alloc, levels, rank - 1)?;
+            links.push(RawIndexLink {
+                op: op_of(sign.kind),
+                value: value.tree,
+            })?;
+        }
+        Ok(chained(alloc, first, links)?)
+    }
+
+    /// Reads an index where so many parts may still be opened in one another.
+    pub fn index(&mut self, alloc: Global, levels: usize) -> Result<RawIndex, Stop>
+        ensures { Reads (spec.index levels (tokens_of self.old)) result (tokens_of self.new) }
+    {
+        self.index_ranked(alloc, levels, SUM)
+    }
+}

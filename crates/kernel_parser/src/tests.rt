@@ -1,0 +1,155 @@
+//! Tokens by hand: a kernel with every part of the grammar, the deepest groups and one more, a third bracket, a text that ends too early.
+use crate::syntax::{SyntaxEnd, tree_of};
+use kernel_lexer::token::{Keyword, Mark, Token, TokenKind};
+use std::alloc::{AllocError, Global};
+use std::test::Fail;
+use word_grammar::fault::Fault;
+
+/// The token k of a text stands at the place k.
+fn place_in_turn(alloc: Global, kinds: &[TokenKind]) -> Result<Vec<Token>, AllocError> {
+    let mut found = Vec::new(alloc);
+    let mut at: u32 = 0;
+    for kind in kinds {
+        found.push(Token {
+            kind: *kind,
+            from: at,
+            to: at,
+        })?;
+        at = at.saturating_add(1);
+    }
+    Ok(found)
+}
+
+/// `kernel k { x = ( .. ( 1 ) .. ) ; }` with so many groups.
+fn groups(alloc: Global, count: u32) -> Result<Vec<TokenKind>, AllocError> {
+    let mut found = Vec::new(alloc);
+    for kind in [
+        TokenKind::Word(Keyword::Kernel),
+        TokenKind::Name,
+        TokenKind::Sign(Mark::OpenBrace),
+        TokenKind::Name,
+        TokenKind::Sign(Mark::Assign),
+    ] {
+        found.push(kind)?;
+    }
+    for _ in 0..count {
+        found.push(TokenKind::Sign(Mark::OpenParen))?;
+    }
+    found.push(TokenKind::Number(1))?;
+    for _ in 0..count {
+        found.push(TokenKind::Sign(Mark::CloseParen))?;
+    }
+    for kind in [
+        TokenKind::Sign(Mark::Semicolon),
+        TokenKind::Sign(Mark::CloseBrace),
+    ] {
+        found.push(kind)?;
+    }
+    Ok(found)
+}
+
+#[test]
+fn deepest(rt: HostRuntime) -> Result<(), Fail> {
+    let alloc = rt.alloc();
+    let fits = groups(alloc, 32)?;
+    let tokens = place_in_turn(alloc, fits.as_slice())?;
+    assert!(rt; tree_of(alloc, tokens.as_slice(), 200).is_ok());
+    let deeper = groups(alloc, 33)?;
+    let tokens = place_in_turn(alloc, deeper.as_slice())?;
+    match tree_of(alloc, tokens.as_slice(), 200) {
+        Err(SyntaxEnd::Fault { fault, at }) => {
+            assert!(rt; fault == Fault::TooDeep);
+            assert_eq!(rt; at, 37);
+        }
+        _ => assert!(rt; false),
+    }
+    Ok(())
+}
+
+#[test]
+fn every_part(rt: HostRuntime) -> Result<(), Fail> {
+    use kernel_lexer::token::Keyword::{Input, Kernel, Loop, Mad, Min, Output};
+    use kernel_lexer::token::Mark::{
+        And, Assign, CloseBrace, CloseBracket, CloseParen, Comma, Dots, Minus, OpenBrace,
+        OpenBracket, OpenParen, Or, Plus, Semicolon, Star, Xor,
+    };
+    use kernel_lexer::token::TokenKind::{Name, Number, Sign, Word};
+
+    let alloc = rt.alloc();
+    // kernel k { in a [ 2 ] [ 3 ] ; out b ; for i in - 1 .. ( 2 ) { b = a [ i ] [ i * 2 - 1 ] * 3 + min ( 1 , - b ) & 4 ^ 5 | mad ( 1 , 2 , 3 ) ; } }
+    let kinds = [
+        Word(Kernel),
+        Name,
+        Sign(OpenBrace),
+        Word(Input),
+        Name,
+        Sign(OpenBracket),
+        Number(2),
+        Sign(CloseBracket),
+        Sign(OpenBracket),
+        Number(3),
+        Sign(CloseBracket),
+        Sign(Semicolon),
+        Word(Output),
+        Name,
+        Sign(Semicolon),
+        Word(Loop),
+        Name,
+        Word(Input),
+        Sign(Minus),
+        Number(1),
+        Sign(Dots),
+        Sign(OpenParen),
+        Number(2),
+        Sign(CloseParen),
+        Sign(OpenBrace),
+        Name,
+        Sign(Assign),
+        Name,
+        Sign(OpenBracket),
+        Name,
+        Sign(CloseBracket),
+        Sign(OpenBracket),
+        Name,
+        Sign(Star),
+        Number(2),
+        Sign(Minus),
+        Number(1),
+        Sign(CloseBracket),
+        Sign(Star),
+        Number(3),
+        Sign(Plus),
+        Word(Min),
+        Sign(OpenParen),
+        Number(1),
+        Sign(Comma),
+        Sign(Minus),
+        Name,
+        Sign(CloseParen),
+        Sign(And),
+        Number(4),
+        Sign(Xor),
+        Number(5),
+        Sign(Or),
+        Word(Mad),
+        Sign(OpenParen),
+        Number(1),
+        Sign(Comma),
+        Number(2),
+        Sign(Comma),
+        Number(3),
+        Sign(CloseParen),
+        Sign(Semicolon),
+        Sign(CloseBrace),
+        Sign(CloseBrace),
+    ];
+    let tokens = place_in_turn(alloc, &kinds)?;
+    match tree_of(alloc, tokens.as_slice(), 64) {
+        Ok(kernel) => {
+            assert_eq!(rt; kernel.decls.len(), 2);
+            assert_eq!(rt; kernel.body.len(), 1);
+        }
+        _ => assert!(rt; false),
+    }
+    Ok(())
+}
