@@ -21,7 +21,8 @@ fault code at = record { code = code; at = at }
 abbrev pub out_of_range : ℕ → Fault
 out_of_range = fault 7
 
--- a value in an index is below -1,000,000 or above 1,000,000; at the index's first token
+-- a number, or the value of an operator or a minus sign, in an index or a bound is below -1,000,000 or above 1,000,000; at the first
+-- token of that index or bound
 abbrev pub big_index : ℕ → Fault
 big_index = fault 14
 

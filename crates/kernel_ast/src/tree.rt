@@ -3,8 +3,8 @@
 //! `at` is a place in the kernel's text, in bytes from 0: the name's for a declaration and a place, the first token's for a statement
 //! and an index, the sign's for a minus and a link, and the function word's for a call. Parentheses give no part of their own.
 //!
-//! A chain is read from the left: `a - b + c` is the chain of `a` with the links `- b` and `+ c`. Its operators are of one level.
-//! The levels are, from the loosest: `|`, `^`, `&`, `+` with `-`, `*`.
+//! A chain is read from the left: `a - b + c` is the chain of `a` with the links `- b` and `+ c`. In a well formed kernel its operators
+//! are of one level. The levels are, from the loosest: `|`, `^`, `&`, `+` with `-`, `*`.
 //!
 //! `Turn(k)` is the index of the k-th open loop from outside, counted from 0.
 use comp_graph::operation::Op;

@@ -1,6 +1,6 @@
 //! Tokens: what they are and where they stand.
 
-/// A reserved word. The last three occur in no kernel of this edition.
+/// A reserved word. The last three, `if`, `else` and `by`, occur in no kernel: they are kept for later.
 #[derive(Clone, Copy, Debug, PartialEq, Eq)]
 pub enum Keyword {
     /// `kernel`

@@ -1,8 +1,8 @@
 //! The tree of a kernel as it is written: names stand as stretches of the text.
 //!
 //! `at` is a place in the text, in bytes from 0: the first token's for an index and a loop, the sign's for a minus and a link, and the
-//! function word's for a call. Parentheses give no part of their own. A chain is read from the left and has at least one link; its
-//! operators are of one level of the grammar.
+//! function word's for a call. Parentheses give no part of their own. A chain is read from the left. As the grammar makes it, a chain has
+//! at least one link, its operators are of one level, and a place has at most two indices; the types do not hold this.
 use comp_graph::operation::Op;
 use kernel_ast::tree::DeclKind;
 use sqlite_items::{Boxed, Items};
@@ -54,7 +54,7 @@ pub struct RawIndex {
     pub tree: RawIndexTree,
 }
 
-/// A name with the indices in brackets behind it, at most two.
+/// A name with the indices in brackets behind it.
 #[derive(Drop)]
 pub struct RawPlace {
     pub name: Span,

@@ -54,7 +54,7 @@ many_by zero test p ts = Got [] ts
 many_by (suc n) test p ts =
     if test (first ts) then and_then (p ts) (λ a mid. and_then (many_by n test p mid) (λ others rest. Got (a ∷ others) rest)) else Got [] ts
 
--- turns of a reader as long as the next token passes the test; there are enough, since each turn takes a token
+-- turns of a reader as long as the next token passes the test, of which there are enough for a reader that takes a token each turn
 abbrev pub many : {T A : Type 0} → (Option T → Bool) → Reader T A → Reader T (List A)
 many test p ts = many_by (length ts) test p ts
 
