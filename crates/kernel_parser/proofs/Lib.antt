@@ -5,3 +5,10 @@ pub mod ExprSteps
 pub mod StatementSteps
 pub mod KernelSteps
 pub mod Turns
+pub mod Lists
+pub mod Faults
+pub mod Statements
+pub mod GoodIndices
+pub mod GoodExprs
+pub mod GoodKernels
+pub mod Wholes

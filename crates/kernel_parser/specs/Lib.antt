@@ -5,3 +5,9 @@ pub mod Parsing
 pub mod Reading
 pub mod Syntax
 pub mod Laws
+pub mod NameFaults
+pub mod Names
+pub mod Scopes
+pub mod Resolved
+pub mod RawWeights
+pub mod RawFits

@@ -1,8 +1,9 @@
-//! Reads the tokens of a kernel into the tree of what is written.
+//! Reads the tokens of a kernel into the tree of what is written, and gives its names their meaning.
 //!
 //! The grammar is `specs/Grammar.antt`, rule by rule, as relations of words; `specs/Trees.antt` says what is made of each rule, and
 //! `specs/Tokens.antt` which tokens a rule asks for. `syntax::tree_of` answers the only reading, or the first fault with its place.
-//! Names stand in the tree as stretches of the text, and nothing is asked of them here.
+//! Names stand in that tree as stretches of the text. `names::resolve` answers the kernel that they make, or the first fault of a name
+//! with its place; `specs/Names.antt` lists these faults as they are read, and `specs/Resolved.antt` is the kernel's tree.
 //!
 //! Inside, each rule has a reader, a function from tokens (`specs/Parsing.antt`), and a method of `Cursor` that answers as the reader
 //! does (`Reads`). `proofs/*Steps.antt` show that the readers are exact, rule by rule, from the laws of `word_grammar`.
@@ -13,6 +14,8 @@ mod cursor;
 mod expr;
 mod index;
 pub mod laws;
+pub mod names;
+pub mod parse_end;
 mod place;
 pub mod raw;
 mod stmt;
@@ -20,6 +23,8 @@ pub mod syntax;
 #[cfg(test)]
 mod tests;
 
+pub use names::resolve;
+pub use parse_end::ParseEnd;
 pub use raw::{
     RawDecl, RawExpr, RawIndex, RawIndexLink, RawIndexTree, RawKernel, RawLink, RawLoop, RawPlace,
     RawSize, RawStmt, Span,

@@ -1,0 +1,119 @@
+use Rattle.std.proofs.Common.{rules, ◌≡◌, ◌+◌, ◌++◌, ◌∷◌, [], IfOk, IfErr, length, drop, append_assoc, sym, ap, subst, ◌∙◌}
+use Rattle.kernel_parser.specs.Names as spec
+use Rattle.kernel_parser.specs.Resolved as tree
+use Rattle.kernel_parser.specs.RawFits.{stmt_fits, body_fits}
+use Rattle.kernel_parser.specs.Scopes.{known_under, entries, EndsAt}
+use Rattle.kernel_ast.specs.declared.tree.Stmt.TheVariants as stmt
+use Rattle.kernel_parser.proofs.Faults.{ends_first, ends_later}
+use Rattle.kernel_parser.proofs.Lists.{drop_next, and_right}
+use Rattle.kernel_parser.proofs.Statements.{assign_has_faults, loop_has_faults, assign_gives, loop_gives}
+use Rattle.kernel_parser.proofs.names.scope.Table.+statement.Goals as goal
+
+pub stmt-returns-in-Assign-clause-tree : goal.stmt-returns-in-Assign-clause-tree
+stmt-returns-in-Assign-clause-tree t c =
+    let s = c.args.self.now in
+    let l = c.args.loops.now.items in
+    let e = ap (λ ls. tree.assign_of (known_under s ls) c.in-Assign.target c.in-Assign.value) c.as_slice.ensures.value
+    ∙ sym (assign_gives s.text.now (entries s) l c.in-Assign.target c.in-Assign.value)
+    ∙ sym (ap (λ r. tree.stmt_of s.text.now (entries s) r l) c.in-Assign.is) in
+    subst (λ z. IfOk c.assignment.result (λ t'. t' ≡ z)) e c.assignment.ensures.tree
+
+pub stmt-returns-in-Assign-clause-fault : goal.stmt-returns-in-Assign-clause-fault
+stmt-returns-in-Assign-clause-fault t c =
+    let s = c.args.self.now in
+    let l = c.args.loops.now.items in
+    let e = ap (λ ls. spec.assign_faults (known_under s ls) c.in-Assign.target c.in-Assign.value) c.as_slice.ensures.value
+    ∙ sym (assign_has_faults s.text.now (entries s) l c.in-Assign.target c.in-Assign.value)
+    ∙ sym (ap (λ r. spec.stmt_faults s.text.now (entries s) r l) c.in-Assign.is) in
+    subst (λ z. IfErr c.assignment.result (EndsAt z)) e c.assignment.ensures.fault
+
+pub stmt-returns-in_err-from-in-Loop-clause-fault : goal.stmt-returns-in_err-from-in-Loop-clause-fault
+stmt-returns-in_err-from-in-Loop-clause-fault t c =
+    let s = c.args.self.now in
+    let l = c.args.loops.now.items in
+    let e = loop_has_faults s.text.now (entries s) l c.in-Loop.header c.in-Loop.body in
+    let here : EndsAt (spec.header_faults (known_under s l) c.in-Loop.header) c.in_err-from-in-Loop.field-0.0
+    = subst (λ ls. EndsAt (spec.header_faults (known_under s ls) c.in-Loop.header) c.in_err-from-in-Loop.field-0.0) c.as_slice-in-Loop.ensures.value c.in_err-from-in-Loop.ensures.fault in
+    let whole : EndsAt (spec.stmt_faults s.text.now (entries s) c.args.raw.now l) c.in_err-from-in-Loop.field-0.0
+    = subst (λ r. EndsAt (spec.stmt_faults s.text.now (entries s) r l) c.in_err-from-in-Loop.field-0.0) (sym c.in-Loop.is)
+    (subst (λ z. EndsAt z c.in_err-from-in-Loop.field-0.0) (sym e) (ends_first _ _ c.in_err-from-in-Loop.field-0.0 here)) in
+    search rules
+
+pub stmt-returns-in_err-body-in-Loop-clause-fault : goal.stmt-returns-in_err-body-in-Loop-clause-fault
+stmt-returns-in_err-body-in-Loop-clause-fault t c =
+    let s = c.args.self.now in
+    let l = c.args.loops.now.items in
+    let h = c.in-Loop.header in
+    let o = c.in_err-body-in-Loop.field-0.0 in
+    let e = loop_has_faults s.text.now (entries s) l h c.in-Loop.body in
+    let inner = c.in_ok-push-in-Loop.ensures.items ∙ ap (λ n. l ++ n ∷ []) c.in_ok-name_of-in-Loop.ensures in
+    let none : spec.header_faults (known_under s l) h ≡ [] = subst (λ ls. spec.header_faults (known_under s ls) h ≡ []) c.as_slice-in-Loop.ensures.value c.in_ok-from-in-Loop.ensures.faultless in
+    let here : EndsAt (spec.body_faults s.text.now (entries s) c.in-Loop.body (l ++ spec.word s.text.now h.name ∷ [])) o
+    = subst (λ b. EndsAt (spec.body_faults s.text.now (entries s) b (l ++ spec.word s.text.now h.name ∷ [])) o) c.as_slice-in-Loop-2.ensures
+    (subst (λ ls. EndsAt (spec.body_faults s.text.now (entries s) c.as_slice-in-Loop-2.result.now ls) o) inner c.in_err-body-in-Loop.ensures.fault) in
+    let whole : EndsAt (spec.stmt_faults s.text.now (entries s) c.args.raw.now l) o
+    = subst (λ r. EndsAt (spec.stmt_faults s.text.now (entries s) r l) o) (sym c.in-Loop.is) (subst (λ z. EndsAt z o) (sym e) (ends_later _ _ o none here)) in
+    search rules
+
+pub stmt-returns-in_ok-body-in-Loop-clause-faultless : goal.stmt-returns-in_ok-body-in-Loop-clause-faultless
+stmt-returns-in_ok-body-in-Loop-clause-faultless t c =
+    let s = c.args.self.now in
+    let l = c.args.loops.now.items in
+    let h = c.in-Loop.header in
+    let e = loop_has_faults s.text.now (entries s) l h c.in-Loop.body in
+    let inner = c.in_ok-push-in-Loop.ensures.items ∙ ap (λ n. l ++ n ∷ []) c.in_ok-name_of-in-Loop.ensures in
+    let none : spec.header_faults (known_under s l) h ≡ [] = subst (λ ls. spec.header_faults (known_under s ls) h ≡ []) c.as_slice-in-Loop.ensures.value c.in_ok-from-in-Loop.ensures.faultless in
+    let here : spec.body_faults s.text.now (entries s) c.in-Loop.body (l ++ spec.word s.text.now h.name ∷ []) ≡ []
+    = subst (λ b. spec.body_faults s.text.now (entries s) b (l ++ spec.word s.text.now h.name ∷ []) ≡ []) c.as_slice-in-Loop-2.ensures
+    (subst (λ ls. spec.body_faults s.text.now (entries s) c.as_slice-in-Loop-2.result.now ls ≡ []) inner c.in_ok-body-in-Loop.ensures.faultless) in
+    ap (λ r. spec.stmt_faults s.text.now (entries s) r l) c.in-Loop.is ∙ e ∙ ap (λ z. z ++ spec.body_faults s.text.now (entries s) c.in-Loop.body (l ++ spec.word s.text.now h.name ∷ [])) none ∙ here
+
+pub stmt-returns-in_ok-body-in-Loop-clause-tree : goal.stmt-returns-in_ok-body-in-Loop-clause-tree
+stmt-returns-in_ok-body-in-Loop-clause-tree t c =
+    let s = c.args.self.now in
+    let l = c.args.loops.now.items in
+    let h = c.in-Loop.header in
+    let e = loop_gives s.text.now (entries s) l h c.in-Loop.body in
+    let inner = c.in_ok-push-in-Loop.ensures.items ∙ ap (λ n. l ++ n ∷ []) c.in_ok-name_of-in-Loop.ensures in
+    let from = c.in_ok-from-in-Loop.ensures.from ∙ ap (λ ls. tree.index_of (known_under s ls) h.from) c.as_slice-in-Loop.ensures.value in
+    let to = c.in_ok-from-in-Loop.ensures.to ∙ ap (λ ls. tree.index_of (known_under s ls) h.to) c.as_slice-in-Loop.ensures.value in
+    let body = c.in_ok-body-in-Loop.ensures.tree
+    ∙ ap (λ b. tree.body_of s.text.now (entries s) b c.push.new.self.items) c.as_slice-in-Loop-2.ensures
+    ∙ ap (λ ls. tree.body_of s.text.now (entries s) c.in-Loop.body ls) inner in
+    ap (λ x. stmt.Loop x c.in_ok-from-in-Loop.to c.in_ok-body-in-Loop.body h.at) from
+    ∙ ap (λ x. stmt.Loop (tree.index_of (known_under s l) h.from) x c.in_ok-body-in-Loop.body h.at) to
+    ∙ ap (λ x. stmt.Loop (tree.index_of (known_under s l) h.from) (tree.index_of (known_under s l) h.to) x h.at) body
+    ∙ sym e ∙ sym (ap (λ r. tree.stmt_of s.text.now (entries s) r l) c.in-Loop.is)
+
+pub body-returns-in_err-stmt-clause-fault : goal.body-returns-in_err-stmt-clause-fault
+body-returns-in_err-stmt-clause-fault t c =
+    let s = c.args.self.now in
+    let l = c.args.loops.now.items in
+    let o = c.in_err-stmt.field-0.0 in
+    let next = drop_next c.args.raw.now c.loop-stmt.stmt-index c.stmt-item.result c.loop-stmt-test.true c.stmt-item.is in
+    let here : EndsAt (spec.stmt_faults s.text.now (entries s) c.stmt-item.result l) o
+    = subst (λ ls. EndsAt (spec.stmt_faults s.text.now (entries s) c.stmt-item.result ls) o) c.loop-stmt.invariant.0 c.in_err-stmt.ensures.fault in
+    let rest : EndsAt (spec.body_faults s.text.now (entries s) (drop c.loop-stmt.stmt-index c.args.raw.now) l) o
+    = subst (λ b. EndsAt (spec.body_faults s.text.now (entries s) b l) o) (sym next) (ends_first _ _ o here) in
+    let whole : EndsAt (spec.body_faults s.text.now (entries s) c.args.raw.now l) o = subst (λ z. EndsAt z o) c.loop-stmt.invariant.3 rest in
+    search rules
+
+pub body-loop-stmt-preserved : goal.body-loop-stmt-preserved
+body-loop-stmt-preserved t c =
+    let s = c.args.self.now in
+    let l = c.args.loops.now.items in
+    let x = c.stmt-item.result in
+    let more = drop (c.loop-stmt.stmt-index + 1) c.args.raw.now in
+    let next = drop_next c.args.raw.now c.loop-stmt.stmt-index x c.loop-stmt-test.true c.stmt-item.is in
+    let fits = ap (body_fits (length l)) (sym next) ∙ c.loop-stmt.invariant.1 in
+    let tree_of_x = c.in_ok-stmt.ensures.tree ∙ ap (λ ls. tree.stmt_of s.text.now (entries s) x ls) c.loop-stmt.invariant.0 in
+    let none : spec.stmt_faults s.text.now (entries s) x l ≡ [] = subst (λ ls. spec.stmt_faults s.text.now (entries s) x ls ≡ []) c.loop-stmt.invariant.0 c.in_ok-stmt.ensures.faultless in (
+      c.in_ok-stmt.ensures.same ∙ c.loop-stmt.invariant.0,
+      and_right (stmt_fits x (length l)) (body_fits (length l) more) fits,
+      ap (λ b. b ++ tree.body_of s.text.now (entries s) more l) c.in_ok-push.ensures.ok
+          ∙ append_assoc c.loop-stmt.body (c.in_ok-stmt.field-0 ∷ []) (tree.body_of s.text.now (entries s) more l)
+          ∙ ap (λ z. c.loop-stmt.body ++ z ∷ tree.body_of s.text.now (entries s) more l) tree_of_x
+          ∙ ap (λ b. c.loop-stmt.body ++ tree.body_of s.text.now (entries s) b l) (sym next)
+          ∙ c.loop-stmt.invariant.2,
+      sym (ap (λ z. z ++ spec.body_faults s.text.now (entries s) more l) none) ∙ ap (λ b. spec.body_faults s.text.now (entries s) b l) (sym next) ∙ c.loop-stmt.invariant.3,
+    )

@@ -1,0 +1,35 @@
+-- The faults of names, and their codes (this project's convention).
+use Rattle.std.specs.Prelude.{ℕ, Bool, if◌then◌else◌, List, [], ◌∷◌, ◌++◌, Option, Some, None}
+use Rattle.kernel_parser.specs.declared.names.fault.Fault.{Fault}
+use Rattle.kernel_parser.specs.declared.names.fault.Fault.TheVariants.{Unknown, Twice, Indices, NotWritable, BadSize}
+
+-- the code of a fault
+abbrev pub code_of : Fault → ℕ
+code_of Unknown = 4
+code_of Twice = 5
+code_of Indices = 6
+code_of NotWritable = 9
+code_of BadSize = 16
+
+-- a fault by its code and its place in the text
+pub record NameFault : Type 0 where
+  pub code : ℕ
+  pub at : ℕ
+
+-- this fault at a place
+abbrev pub fault : Fault → ℕ → NameFault
+fault f at = record { code = code_of f; at = at }
+
+-- this fault at a place, where the test fails
+abbrev pub unless : Bool → Fault → ℕ → List NameFault
+unless test f at = if test then [] else fault f at ∷ []
+
+-- the first of a list
+abbrev pub first : {A : Type 0} → List A → Option A
+first [] = None
+first (a ∷ more) = Some a
+
+-- the faults of one part after another
+abbrev pub joined : List (List NameFault) → List NameFault
+joined [] = []
+joined (faults ∷ more) = faults ++ joined more

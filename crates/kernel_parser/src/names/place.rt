@@ -1,0 +1,62 @@
+//! Resolves places: names with their indices.
+ghost use Rattle.std.specs.Prelude.{◌≡◌, [], OnOk, IfOk, IfErr};
+ghost use Rattle.kernel_parser.specs.Names as spec;
+ghost use Rattle.kernel_parser.specs.Resolved as tree;
+ghost use Rattle.kernel_parser.specs.Scopes.{known, EndsAt};
+
+use crate::names::fault::Fault;
+use crate::names::scope::{Meaning, Scope};
+use crate::parse_end::ParseEnd;
+use crate::raw::RawPlace;
+use kernel_ast::{Expr, Place};
+
+impl<'a> Scope<'a> {
+    /// Resolves a place in an expression.
+    pub fn read(&self, raw: &RawPlace) -> Result<Expr, ParseEnd>
+        ensures faultless { OnOk result (spec.place_faults (known self.now) raw.now ≡ []) }
+        ensures tree { IfOk result (λ t. t ≡ tree.place_of (known self.now) raw.now) }
+        ensures fault { IfErr result (EndsAt (spec.place_faults (known self.now) raw.now)) }
+    {
+        let at = raw.name.from;
+        match self.meaning(raw.name)? {
+            Meaning::Turn(open) => {
+                if raw.indices.is_empty() {
+                    Ok(Expr::Turn(open))
+                } else {
+                    Err(Fault::Indices.at(at))
+                }
+            }
+            Meaning::Element(decl) => {
+                if !self.has_sizes(decl, raw.indices.len()) {
+                    return Err(Fault::Indices.at(at));
+                }
+                let indices = self.indices(raw.indices.as_slice())?;
+                Ok(Expr::Cell(Place { decl, indices, at }))
+            }
+            Meaning::Unknown => Err(Fault::Unknown.at(at)),
+        }
+    }
+
+    /// Resolves a place that is assigned to.
+    pub fn target(&self, raw: &RawPlace) -> Result<Place, ParseEnd>
+        ensures faultless { OnOk result (spec.target_place_faults (known self.now) raw.now ≡ []) }
+        ensures tree { IfOk result (λ t. t ≡ tree.target_of (known self.now) raw.now) }
+        ensures fault { IfErr result (EndsAt (spec.target_place_faults (known self.now) raw.now)) }
+    {
+        let at = raw.name.from;
+        match self.meaning(raw.name)? {
+            Meaning::Turn(_) => Err(Fault::NotWritable.at(at)),
+            Meaning::Element(decl) => {
+                if !self.is_writable(decl) {
+                    return Err(Fault::NotWritable.at(at));
+                }
+                if !self.has_sizes(decl, raw.indices.len()) {
+                    return Err(Fault::Indices.at(at));
+                }
+                let indices = self.indices(raw.indices.as_slice())?;
+                Ok(Place { decl, indices, at })
+            }
+            Meaning::Unknown => Err(Fault::Unknown.at(at)),
+        }
+    }
+}

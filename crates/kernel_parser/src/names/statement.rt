@@ -1,0 +1,93 @@
+//! Resolves statements.
+ghost use Rattle.std.specs.Prelude.{◌≡◌, ◌≤◌, true, length, [], OnOk, IfOk, IfErr};
+ghost use Rattle.kernel_parser.specs.Names as spec;
+ghost use Rattle.kernel_parser.specs.RawFits.{stmt_fits, body_fits};
+ghost use Rattle.kernel_parser.specs.Resolved as tree;
+ghost use Rattle.kernel_parser.specs.Scopes.{known_under, entries, EndsAt};
+
+use crate::names::fault::Fault;
+use crate::names::lookup::name_of;
+use crate::names::scope::{Meaning, Scope, Table};
+use crate::parse_end::ParseEnd;
+use crate::raw::{RawExpr, RawLoop, RawPlace, RawStmt};
+use kernel_ast::{Index, Name, Stmt};
+use sqlite_items::Items;
+
+impl<'a> Table<'a> {
+    fn bounds(&self, loops: &[Name], header: &RawLoop) -> Result<(Index, Index), ParseEnd>
+        requires { length loops.now ≤ 32 }
+        ensures faultless { OnOk result (spec.header_faults (known_under self.now loops.now) header.now ≡ []) }
+        ensures from { IfOk result (λ b. b.0 ≡ tree.index_of (known_under self.now loops.now) header.now.from) }
+        ensures to { IfOk result (λ b. b.1 ≡ tree.index_of (known_under self.now loops.now) header.now.to) }
+        ensures fault { IfErr result (EndsAt (spec.header_faults (known_under self.now loops.now) header.now)) }
+    {
+        let scope = Scope { table: self, loops };
+        match scope.meaning(header.name)? {
+            Meaning::Unknown => Ok((scope.index(&header.from)?, scope.index(&header.to)?)),
+            _ => Err(Fault::Twice.at(header.name.from)),
+        }
+    }
+
+    fn assignment(
+        &self,
+        loops: &[Name],
+        target: &RawPlace,
+        value: &RawExpr,
+    ) -> Result<Stmt, ParseEnd>
+        requires { length loops.now ≤ 32 }
+        ensures faultless { OnOk result (spec.assign_faults (known_under self.now loops.now) target.now value.now ≡ []) }
+        ensures tree { IfOk result (λ t. t ≡ tree.assign_of (known_under self.now loops.now) target.now value.now) }
+        ensures fault { IfErr result (EndsAt (spec.assign_faults (known_under self.now loops.now) target.now value.now)) }
+    {
+        let scope = Scope { table: self, loops };
+        let at = target.name.from;
+        Ok(Stmt::Assign {
+            target: scope.target(target)?,
+            value: scope.expr(value)?,
+            at,
+        })
+    }
+
+    #[cycle(statement)]
+    fn stmt(&self, loops: &mut Vec<Name>, raw: &RawStmt) -> Result<Stmt, ParseEnd>
+        requires depth { length loops.old.items ≤ 32 }
+        requires fits { stmt_fits raw.now (length loops.old.items) ≡ true }
+        ensures faultless { OnOk result (spec.stmt_faults self.now.text.now (entries self.now) raw.now loops.old.items ≡ []) }
+        ensures tree { IfOk result (λ t. t ≡ tree.stmt_of self.now.text.now (entries self.now) raw.now loops.old.items) }
+        ensures fault { IfErr result (EndsAt (spec.stmt_faults self.now.text.now (entries self.now) raw.now loops.old.items)) }
+        ensures same { OnOk result (loops.new.items ≡ loops.old.items) }
+    {
+        match raw {
+            RawStmt::Assign(target, value) => self.assignment(loops.as_slice(), target, value),
+            RawStmt::Loop(header, body) => {
+                let (from, to) = self.bounds(loops.as_slice(), header)?;
+                loops.push(name_of(self.alloc, self.text, header.name)?)?;
+                let body = self.body(loops, body.as_slice())?;
+                loops.pop();
+                Ok(Stmt::Loop {
+                    from,
+                    to,
+                    body,
+                    at: header.at,
+                })
+            }
+        }
+    }
+
+    /// Resolves the statements of a body, which stands in these loops.
+    #[cycle(statement)]
+    pub fn body(&self, loops: &mut Vec<Name>, raw: &[RawStmt]) -> Result<Items<Stmt>, ParseEnd>
+        requires depth { length loops.old.items ≤ 32 }
+        requires fits { body_fits (length loops.old.items) raw.now ≡ true }
+        ensures faultless { OnOk result (spec.body_faults self.now.text.now (entries self.now) raw.now loops.old.items ≡ []) }
+        ensures tree { IfOk result (λ t. t ≡ tree.body_of self.now.text.now (entries self.now) raw.now loops.old.items) }
+        ensures fault { IfErr result (EndsAt (spec.body_faults self.now.text.now (entries self.now) raw.now loops.old.items)) }
+        ensures same { OnOk result (loops.new.items ≡ loops.old.items) }
+    {
+        let mut body = Items::new(self.alloc);
+        for stmt in raw {
+            body.push(self.stmt(loops, stmt)?)?;
+        }
+        Ok(body)
+    }
+}
