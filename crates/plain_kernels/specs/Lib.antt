@@ -1,0 +1,5 @@
+pub mod Laws
+pub mod PlainKernels
+pub mod PlainSafety
+pub mod PlainSteps
+pub mod PlainViews

@@ -1,0 +1,10 @@
+//! Laws of the graphs of kernels. A call does nothing: its contract is the law.
+ghost use Rattle.plain_kernels.specs.Laws.{GraphsAreGraphs, GraphsKeepTheLabels, GraphsHaveTheMeaning};
+
+/// The graph of a well-formed kernel is a graph, it has the kernel's title and the labels of its input and output elements, and on each
+/// list of values of the inputs its values are the kernel's outputs, as they are evaluated along the tree.
+pub fn kernel_graphs()
+    ensures graphs { GraphsAreGraphs }
+    ensures labels { GraphsKeepTheLabels }
+    ensures meaning { GraphsHaveTheMeaning }
+{}
