@@ -1,6 +1,6 @@
 -- Laws of all texts, that calls of this crate carry.
 use Rattle.std.specs.Prelude.{◌⊎◌, ◌≡◌, ◌≤◌, ◌<◌, ℕ, List, [], ◌∷◌, length, slice_range, Some}
-use Rattle.std.specs.Str.{encode_utf8_all}
+use Rattle.std.specs.Str.{encode_utf8_all, IsUtf8}
 use Rattle.kernel_lexer.specs.declared.token.Token.{Token}
 use Rattle.kernel_lexer.specs.Spelling.{Text, kind_of}
 use Rattle.kernel_lexer.specs.Texts.{AreTextTokens, IsTextFault}
@@ -21,9 +21,9 @@ NeverBoth = (text : List ℕ) (ts : List Token) (c at : ℕ) → AreTextTokens t
 abbrev pub AlwaysOne : Type 0
 AlwaysOne = (text : List ℕ) → ((ts : List Token) × AreTextTokens text ts) ⊎ ((c : ℕ) × (at : ℕ) × IsTextFault text c at)
 
--- the token's span in the text spells what the token is
+-- the token's span in the text is UTF-8, and spells what the token is
 abbrev pub IsSpelled : List ℕ → Token → Type 0
-IsSpelled text t = (word : Text) × (slice_range text t.from t.to ≡ encode_utf8_all word) × (kind_of word ≡ Some t.kind)
+IsSpelled text t = (word : Text) × IsUtf8 (slice_range text t.from t.to) × (slice_range text t.from t.to ≡ encode_utf8_all word) × (kind_of word ≡ Some t.kind)
 
 -- From this place on the spans rise and stand within the text, and each spells what its token is.
 abbrev pub AreSpans : List ℕ → ℕ → List Token → Type 0

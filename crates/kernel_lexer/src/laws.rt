@@ -10,7 +10,7 @@ pub fn tokens_or_fault()
     ensures always_one { AlwaysOne }
 {}
 
-/// The spans of the tokens of a text rise, none is empty, all stand within the text, and each spells what its token is.
+/// The spans of the tokens of a text rise, none is empty, all stand within the text, and each is UTF-8 and spells what its token is.
 pub fn spans_rise()
     ensures { SpansRise }
 {}

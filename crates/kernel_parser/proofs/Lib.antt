@@ -12,3 +12,10 @@ pub mod GoodIndices
 pub mod GoodExprs
 pub mod GoodKernels
 pub mod Wholes
+pub mod Spelled
+pub mod Levels
+pub mod ReadIndices
+pub mod ReadExprs
+pub mod ReadKernels
+pub mod OneText
+pub mod NameEnds

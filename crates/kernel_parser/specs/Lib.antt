@@ -11,3 +11,5 @@ pub mod Scopes
 pub mod Resolved
 pub mod RawWeights
 pub mod RawFits
+pub mod KernelTexts
+pub mod TextLaws

@@ -1,4 +1,6 @@
-//! Reads the tokens of a kernel into the tree of what is written, and gives its names their meaning.
+//! Reads the text of a kernel: `parse` answers the kernel that it stands for, or the first fault with its code and place
+//! (`specs/KernelTexts.antt`). The tokens are those of `kernel_lexer`; this crate reads them into the tree of what is written, and gives
+//! its names their meaning.
 //!
 //! The grammar is `specs/Grammar.antt`, rule by rule, as relations of words; `specs/Trees.antt` says what is made of each rule, and
 //! `specs/Tokens.antt` which tokens a rule asks for. `syntax::tree_of` answers the only reading, or the first fault with its place.
@@ -13,6 +15,7 @@ mod class;
 mod cursor;
 mod expr;
 mod index;
+pub mod kernel_text;
 pub mod laws;
 pub mod names;
 pub mod parse_end;
@@ -23,6 +26,7 @@ pub mod syntax;
 #[cfg(test)]
 mod tests;
 
+pub use kernel_text::{MAX_LENGTH, parse};
 pub use names::resolve;
 pub use parse_end::ParseEnd;
 pub use raw::{

@@ -1,4 +1,7 @@
 //! Tokens by hand: a kernel with every part of the grammar, the deepest groups and one more, a third bracket, a text that ends too early.
+//! Texts: a kernel, and faults of the tokens, the syntax and the names.
+use crate::kernel_text::parse;
+use crate::parse_end::ParseEnd;
 use crate::syntax::{SyntaxEnd, tree_of};
 use kernel_lexer::token::{Keyword, Mark, Token, TokenKind};
 use std::alloc::{AllocError, Global};
@@ -151,5 +154,30 @@ fn every_part(rt: HostRuntime) -> Result<(), Fail> {
         }
         _ => assert!(rt; false),
     }
+    Ok(())
+}
+
+#[test]
+fn texts(rt: HostRuntime) -> Result<(), Fail> {
+    let alloc = rt.alloc();
+    let text = b"kernel k { in a[2]; out b; for i in 0..1 { b = a[i] + 3; } }";
+    match parse(alloc, text) {
+        Ok(kernel) => {
+            assert_eq!(rt; kernel.title().bytes(), b"k".as_slice());
+            assert_eq!(rt; kernel.decls().len(), 2);
+            assert_eq!(rt; kernel.body().len(), 1);
+        }
+        Err(_) => assert!(rt; false),
+    }
+    assert!(rt; parse(alloc, b"kernel k { # }").err() == Some(ParseEnd::Fault { code: 1, at: 11 }));
+    assert!(rt; parse(alloc, b"kernel k { b }").err() == Some(ParseEnd::Fault { code: 3, at: 13 }));
+    assert!(rt; parse(alloc, b"kernel k").err() == Some(ParseEnd::Fault { code: 3, at: 8 }));
+    assert!(rt;
+        parse(alloc, b"kernel k { b = 1; }").err() == Some(ParseEnd::Fault { code: 4, at: 11 })
+    );
+    assert!(rt;
+        parse(alloc, b"kernel k { in a; a = b; c }").err()
+            == Some(ParseEnd::Fault { code: 3, at: 26 })
+    );
     Ok(())
 }

@@ -1,0 +1,20 @@
+-- Laws of the texts of kernels. Calls of this crate carry them.
+use Rattle.std.specs.Prelude.{◌≡◌, ◌⊎◌, ℕ, List}
+use Rattle.kernel_ast.specs.KernelParts.{KernelParts}
+use Rattle.kernel_parser.specs.KernelTexts.{Reads, IsFaultOfText}
+
+-- A text stands for at most one kernel.
+abbrev pub OneKernel : Type 0
+OneKernel = (text : List ℕ) (a b : KernelParts) → Reads text a → Reads text b → a ≡ b
+
+-- A text has at most one first fault.
+abbrev pub OneTextFault : Type 0
+OneTextFault = (text : List ℕ) (c d at place : ℕ) → IsFaultOfText text c at → IsFaultOfText text d place → (c ≡ d) × (at ≡ place)
+
+-- A text that stands for a kernel has no fault.
+abbrev pub KernelWithoutFault : Type 0
+KernelWithoutFault = (text : List ℕ) (kernel : KernelParts) (code at : ℕ) → Reads text kernel → IsFaultOfText text code at → ⊥
+
+-- Each text stands for a kernel or has a first fault.
+abbrev pub KernelOrFault : Type 0
+KernelOrFault = (text : List ℕ) → ((kernel : KernelParts) × Reads text kernel) ⊎ ((code : ℕ) × (at : ℕ) × IsFaultOfText text code at)
