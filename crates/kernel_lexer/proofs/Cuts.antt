@@ -13,7 +13,8 @@ use Rattle.std.proofs.lemmas.Bool.{eqb-true}
 use Rattle.kernel_lexer.specs.declared.token.Mark.{Mark}
 use Rattle.kernel_lexer.specs.declared.cut.Fault.TheVariants.{BadByte, TooBig}
 use Rattle.kernel_lexer.specs.declared.cut.Cut.TheVariants.{Token, NoToken}
-use Rattle.kernel_lexer.specs.Spelling.{Text, is_digit, starts, continues, all, is_word, is_digits, mark_of, sign_of, is_spelling, Longest, kind_of, bytes, value, keyword, named, signed}
+use Rattle.std.specs.List.{list_all}
+use Rattle.kernel_lexer.specs.Spelling.{Text, is_digit, starts, continues, is_word, is_digits, mark_of, sign_of, is_spelling, Longest, kind_of, bytes, value, keyword, named, signed}
 use Rattle.kernel_lexer.specs.Cutting.{IsCut, run, past, BeginsWord, BeginsNumber, BeginsOther}
 use Rattle.kernel_lexer.proofs.Words.{run_past, all_run, longest_word, longest_digits}
 
@@ -44,10 +45,10 @@ chosen_false b x y e = ap (λ z. cond z x y) e
 chosen_true : {A : Type 0} (b : Bool) (x y : A) → b ≡ true → cond b x y ≡ x
 chosen_true b x y e = ap (λ z. cond z x y) e
 
-word_kind : (c : ℕ) (w : Text) → starts c ≡ true → is_digit c ≡ false → all continues w ≡ true → kind_of (c ∷ w) ≡ cond (nat_le (bytes (c ∷ w)) 64) (Some (named (keyword (c ∷ w)))) None
+word_kind : (c : ℕ) (w : Text) → starts c ≡ true → is_digit c ≡ false → list_all continues w ≡ true → kind_of (c ∷ w) ≡ cond (nat_le (bytes (c ∷ w)) 64) (Some (named (keyword (c ∷ w)))) None
 word_kind c w s d a =
-    let digits : is_digits (c ∷ w) ≡ false = ap (λ z. z && all is_digit w) d in
-    let word : is_word (c ∷ w) ≡ true = ap (λ z. z && all continues w) s ∙ a in
+    let digits : is_digits (c ∷ w) ≡ false = ap (λ z. z && list_all is_digit w) d in
+    let word : is_word (c ∷ w) ≡ true = ap (λ z. z && list_all continues w) s ∙ a in
     chosen_false (is_digits (c ∷ w)) (cond (nat_lt (value (c ∷ w)) (2 ^ 63)) (Some (Number (pos (value (c ∷ w))))) None) (cond (is_word (c ∷ w)) (cond (nat_le (bytes (c ∷ w)) 64) (Some (named (keyword (c ∷ w)))) None) (signed (sign_of (c ∷ w)))) digits
     ∙ chosen_true (is_word (c ∷ w)) (cond (nat_le (bytes (c ∷ w)) 64) (Some (named (keyword (c ∷ w)))) None) (signed (sign_of (c ∷ w))) word
 
@@ -81,13 +82,13 @@ number_kind w d = chosen_true (is_digits w) (cond (nat_lt (value w) (2 ^ 63)) (S
 first_run : (c : ℕ) (cs : Text) → is_digit c ≡ true → run is_digit (c ∷ cs) ≡ c ∷ run is_digit cs
 first_run c cs d = chosen_true (is_digit c) (c ∷ run is_digit cs) [] d
 
-pub all_digits : (cs : Text) (len : ℕ) → len ≡ length (run is_digit cs) → all is_digit (take len cs) ≡ true
-all_digits cs len e = ap (λ n. all is_digit (take n cs)) e ∙ ap (all is_digit) (take_run is_digit cs) ∙ all_run is_digit cs
+pub all_digits : (cs : Text) (len : ℕ) → len ≡ length (run is_digit cs) → list_all is_digit (take len cs) ≡ true
+all_digits cs len e = ap (λ n. list_all is_digit (take n cs)) e ∙ ap (list_all is_digit) (take_run is_digit cs) ∙ all_run is_digit cs
 
 pub number_cut : (text : Text) (len : ℕ) (n : ℤ) → BeginsNumber text → len ≡ length (run is_digit text) → n ≡ pos (value (take len text)) → value (take len text) < 2 ^ 63 → IsCut text (Token (Number n) len)
 number_cut text len n (c, cs, t, s, d, g) e v h =
     let w : take len text ≡ c ∷ run is_digit cs = ap (λ z. take z text) e ∙ take_run is_digit text ∙ ap (run is_digit) t ∙ first_run c cs d in
-    let digits : is_digits (c ∷ run is_digit cs) ≡ true = ap (λ z. z && all is_digit (run is_digit cs)) d ∙ all_run is_digit cs in
+    let digits : is_digits (c ∷ run is_digit cs) ≡ true = ap (λ z. z && list_all is_digit (run is_digit cs)) d ∙ all_run is_digit cs in
     let small : nat_lt (value (c ∷ run is_digit cs)) (2 ^ 63) ≡ true = ap (λ z. nat_lt (value z) (2 ^ 63)) (sym w) ∙ lt-ltb (value (take len text)) (2 ^ 63) h in
     let k : kind_of (c ∷ run is_digit cs) ≡ Some (Number (pos (value (c ∷ run is_digit cs)))) = number_kind (c ∷ run is_digit cs) digits ∙ chosen_true (nat_lt (value (c ∷ run is_digit cs)) (2 ^ 63)) (Some (Number (pos (value (c ∷ run is_digit cs))))) None small in
     let kind : kind_of (c ∷ run is_digit cs) ≡ Some (Number n) = k ∙ ap (λ z. Some (Number (pos (value z)))) (sym w) ∙ ap (λ z. Some (Number z)) (sym v) in
@@ -97,7 +98,7 @@ number_cut text len n (c, cs, t, s, d, g) e v h =
 pub number_big : (text : Text) (len : ℕ) → BeginsNumber text → len ≡ length (run is_digit text) → 2 ^ 63 ≤ value (take len text) → IsCut text (NoToken TooBig)
 number_big text len (c, cs, t, s, d, g) e h =
     let w : take len text ≡ c ∷ run is_digit cs = ap (λ z. take z text) e ∙ take_run is_digit text ∙ ap (run is_digit) t ∙ first_run c cs d in
-    let digits : is_digits (c ∷ run is_digit cs) ≡ true = ap (λ z. z && all is_digit (run is_digit cs)) d ∙ all_run is_digit cs in
+    let digits : is_digits (c ∷ run is_digit cs) ≡ true = ap (λ z. z && list_all is_digit (run is_digit cs)) d ∙ all_run is_digit cs in
     let large : nat_lt (value (c ∷ run is_digit cs)) (2 ^ 63) ≡ false = ap (λ z. nat_lt (value z) (2 ^ 63)) (sym w) ∙ le-ltb (value (take len text)) (2 ^ 63) h in
     let k : kind_of (c ∷ run is_digit cs) ≡ None = number_kind (c ∷ run is_digit cs) digits ∙ chosen_false (nat_lt (value (c ∷ run is_digit cs)) (2 ^ 63)) (Some (Number (pos (value (c ∷ run is_digit cs))))) None large in
     (c ∷ run is_digit cs, past is_digit cs, t ∙ ap (λ z. c ∷ z) (run_past is_digit cs), longest_digits c cs s d g, k)
@@ -127,7 +128,7 @@ only_third a b c h e f = rw (e, f) at h
 
 third_only : (c : ℕ) (cs : Text) → starts c ≡ false → is_digit c ≡ false → is_spelling (c ∷ cs) ≡ true → (k : Mark) × (sign_of (c ∷ cs) ≡ Some k)
 third_only c cs s d h =
-    some_of (sign_of (c ∷ cs)) (only_third (starts c && all continues cs) (is_digit c && all is_digit cs) (is_some (sign_of (c ∷ cs))) h (ap (λ z. z && all continues cs) s) (ap (λ z. z && all is_digit cs) d))
+    some_of (sign_of (c ∷ cs)) (only_third (starts c && list_all continues cs) (is_digit c && list_all is_digit cs) (is_some (sign_of (c ∷ cs))) h (ap (λ z. z && list_all continues cs) s) (ap (λ z. z && list_all is_digit cs) d))
 
 sign_longest : (c : ℕ) (w more : Text) (m : Mark) → starts c ≡ false → is_digit c ≡ false → sign_of (c ∷ w) ≡ Some m → is_spelling (c ∷ (w ++ more)) ≡ true → more ≡ []
 sign_longest c w [] m s d e h = refl
@@ -145,8 +146,8 @@ sign_cut_whole (b ∷ w) rest m c cs t s d e =
     let here : c ≡ b = cc in
     let s' : starts b ≡ false = ap starts (sym here) ∙ s in
     let d' : is_digit b ≡ false = ap is_digit (sym here) ∙ d in
-    let digits : is_digits (b ∷ w) ≡ false = ap (λ z. z && all is_digit w) d' in
-    let word : is_word (b ∷ w) ≡ false = ap (λ z. z && all continues w) s' in
+    let digits : is_digits (b ∷ w) ≡ false = ap (λ z. z && list_all is_digit w) d' in
+    let word : is_word (b ∷ w) ≡ false = ap (λ z. z && list_all continues w) s' in
     let k : kind_of (b ∷ w) ≡ signed (sign_of (b ∷ w)) =
     chosen_false (is_digits (b ∷ w)) (cond (nat_lt (value (b ∷ w)) (2 ^ 63)) (Some (Number (pos (value (b ∷ w))))) None) (cond (is_word (b ∷ w)) (cond (nat_le (bytes (b ∷ w)) 64) (Some (named (keyword (b ∷ w)))) None) (signed (sign_of (b ∷ w)))) digits
     ∙ chosen_false (is_word (b ∷ w)) (cond (nat_le (bytes (b ∷ w)) 64) (Some (named (keyword (b ∷ w)))) None) (signed (sign_of (b ∷ w))) word in

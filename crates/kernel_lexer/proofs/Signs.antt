@@ -7,7 +7,8 @@ use Rattle.std.proofs.lemmas.Bool.Decides.{nat_tests}
 use Rattle.unicode_ident.specs.Ident.{is_xid_start}
 use Rattle.unicode_ident.proofs.IdentLemmas.{is_xid_start-ascii}
 use Rattle.kernel_lexer.specs.declared.token.Mark.{Mark}
-use Rattle.kernel_lexer.specs.Spelling.{is_digit, starts, look_up, signs, mark_of}
+use Rattle.std.specs.Map.{lookup}
+use Rattle.kernel_lexer.specs.Spelling.{is_digit, starts, signs, mark_of}
 use Rattle.kernel_lexer.specs.Cutting.{begins_sign}
 
 -- no key passes
@@ -22,10 +23,10 @@ not_this p e rest r c false true i j k l m = absurd (cc)
 not_this p e rest r c false false i j k l m = m l
 
 -- what passes is none of keys that do not
-not_found : (p : ℕ → Bool) (es : List (ℕ × Mark)) (c : ℕ) → no_key p es ≡ true → p c ≡ true → is_some (look_up (λ k. eqb c k) es) ≡ false
+not_found : (p : ℕ → Bool) (es : List (ℕ × Mark)) (c : ℕ) → no_key p es ≡ true → p c ≡ true → is_some (lookup (λ k. eqb c k) es) ≡ false
 unfolding no_key
 not_found p [] c h k = refl
-not_found p (e ∷ es) c h k = not_this p e (look_up (λ k. eqb c k) es) (no_key p es) c (eqb c e.0) (p e.0) refl refl k h (λ l. not_found p es c l k)
+not_found p (e ∷ es) c h k = not_this p e (lookup (λ k. eqb c k) es) (no_key p es) c (eqb c e.0) (p e.0) refl refl k h (λ l. not_found p es c l k)
 
 apart : (p : ℕ → Bool) (c : ℕ) → no_key p signs ≡ true → p 46 ≡ false → p c ≡ true → begins_sign c ≡ false
 apart p c h d k = step (eqb c 46) refl

@@ -3,7 +3,8 @@ use Rattle.std.proofs.Common.{◌≡◌, ℕ, Bool, true, false, cond, eqb, [], 
 use Rattle.std.specs.Prelude.{◌&&◌, ◌||◌}
 use Rattle.std.specs.Prelude.{is_some}
 use Rattle.kernel_lexer.specs.declared.token.Mark.{Mark}
-use Rattle.kernel_lexer.specs.Spelling.{Text, is_digit, starts, continues, all, mark_of, sign_of, is_spelling, Longest}
+use Rattle.std.specs.List.{list_all}
+use Rattle.kernel_lexer.specs.Spelling.{Text, is_digit, starts, continues, mark_of, sign_of, is_spelling, Longest}
 use Rattle.kernel_lexer.specs.Cutting.{run, past, begins_sign}
 
 pub run_past : (p : ℕ → Bool) (cs : Text) → cs ≡ run p cs ++ past p cs
@@ -14,17 +15,17 @@ pub both_true : (a b : Bool) → (a && b) ≡ true → (a ≡ true) × (b ≡ tr
 both_true true b e = (refl, e)
 both_true false b e = absurd (cc)
 
-all_run_step : (p : ℕ → Bool) (c : ℕ) (cs : Text) (b : Bool) → p c ≡ b → all p (run p cs) ≡ true → all p (cond b (c ∷ run p cs) []) ≡ true
+all_run_step : (p : ℕ → Bool) (c : ℕ) (cs : Text) (b : Bool) → p c ≡ b → list_all p (run p cs) ≡ true → list_all p (cond b (c ∷ run p cs) []) ≡ true
 all_run_step p c cs true e h = rw (e) h
 all_run_step p c cs false e h = refl
 
-pub all_run : (p : ℕ → Bool) (cs : Text) → all p (run p cs) ≡ true
+pub all_run : (p : ℕ → Bool) (cs : Text) → list_all p (run p cs) ≡ true
 all_run p [] = refl
 all_run p (c ∷ cs) = all_run_step p c cs (p c) refl (all_run p cs)
 
-all_back : (p : ℕ → Bool) (u v : Text) → all p (u ++ v) ≡ true → all p v ≡ true
+all_back : (p : ℕ → Bool) (u v : Text) → list_all p (u ++ v) ≡ true → list_all p v ≡ true
 all_back p [] v h = h
-all_back p (c ∷ u) v h = all_back p u v (both_true (p c) (all p (u ++ v)) h).1
+all_back p (c ∷ u) v h = all_back p u v (both_true (p c) (list_all p (u ++ v)) h).1
 
 past_first_step : (p : ℕ → Bool) (c : ℕ) (cs : Text) (d : ℕ) (ds : Text) (b : Bool) → p c ≡ b → cond b (past p cs) (c ∷ cs) ≡ d ∷ ds → (past p cs ≡ d ∷ ds → p d ≡ false) → p d ≡ false
 past_first_step p c cs d ds true e h k = k h
@@ -35,11 +36,11 @@ past_first p [] d ds h = absurd (cc)
 past_first p (c ∷ cs) d ds h = past_first_step p c cs d ds (p c) refl h (past_first p cs d ds)
 
 -- more than the longest front does not pass
-pub longer_fails : (p : ℕ → Bool) (cs more after : Text) → past p cs ≡ more ++ after → all p (run p cs ++ more) ≡ true → more ≡ []
+pub longer_fails : (p : ℕ → Bool) (cs more after : Text) → past p cs ≡ more ++ after → list_all p (run p cs ++ more) ≡ true → more ≡ []
 longer_fails p cs [] after e h = refl
 longer_fails p cs (d ∷ more) after e h =
     let f : p d ≡ false = past_first p cs d (more ++ after) e in
-    let g : p d ≡ true = (both_true (p d) (all p more) (all_back p (run p cs) (d ∷ more) h)).0 in
+    let g : p d ≡ true = (both_true (p d) (list_all p more) (all_back p (run p cs) (d ∷ more) h)).0 in
     absurd (cc)
 
 -- ---- the three classes stay apart
@@ -67,13 +68,13 @@ only_second a true c h e f = refl
 only_second a false c h e f = absurd (cc)
 
 -- the class that a spelling has by its first character
-word_only : (c : ℕ) (cs : Text) → is_digit c ≡ false → begins_sign c ≡ false → is_spelling (c ∷ cs) ≡ true → all continues cs ≡ true
+word_only : (c : ℕ) (cs : Text) → is_digit c ≡ false → begins_sign c ≡ false → is_spelling (c ∷ cs) ≡ true → list_all continues cs ≡ true
 word_only c cs d g h =
-    let e : (starts c && all continues cs) ≡ true = only_first (starts c && all continues cs) (is_digit c && all is_digit cs) (is_some (sign_of (c ∷ cs))) h (ap (λ z. z && all is_digit cs) d) (ap is_some (no_sign c cs g)) in
-    (both_true (starts c) (all continues cs) e).1
+    let e : (starts c && list_all continues cs) ≡ true = only_first (starts c && list_all continues cs) (is_digit c && list_all is_digit cs) (is_some (sign_of (c ∷ cs))) h (ap (λ z. z && list_all is_digit cs) d) (ap is_some (no_sign c cs g)) in
+    (both_true (starts c) (list_all continues cs) e).1
 
-digits_only : (c : ℕ) (cs : Text) → starts c ≡ false → begins_sign c ≡ false → is_spelling (c ∷ cs) ≡ true → all is_digit (c ∷ cs) ≡ true
-digits_only c cs s g h = only_second (starts c && all continues cs) (is_digit c && all is_digit cs) (is_some (sign_of (c ∷ cs))) h (ap (λ z. z && all continues cs) s) (ap is_some (no_sign c cs g))
+digits_only : (c : ℕ) (cs : Text) → starts c ≡ false → begins_sign c ≡ false → is_spelling (c ∷ cs) ≡ true → list_all is_digit (c ∷ cs) ≡ true
+digits_only c cs s g h = only_second (starts c && list_all continues cs) (is_digit c && list_all is_digit cs) (is_some (sign_of (c ∷ cs))) h (ap (λ z. z && list_all continues cs) s) (ap is_some (no_sign c cs g))
 
 -- a word that is as long as it can be
 pub longest_word : (c : ℕ) (cs : Text) → starts c ≡ true → is_digit c ≡ false → begins_sign c ≡ false → Longest (c ∷ run continues cs) (past continues cs)
@@ -86,7 +87,7 @@ longest_word c cs s d g = record {
 pub longest_digits : (c : ℕ) (cs : Text) → starts c ≡ false → is_digit c ≡ true → begins_sign c ≡ false → Longest (c ∷ run is_digit cs) (past is_digit cs)
 longest_digits c cs s d g = record {
   is = rw (s) (rw (d) (rw (all_run is_digit cs) refl));
-  longest = λ more after e h. longer_fails is_digit cs more after e (both_true (is_digit c) (all is_digit (run is_digit cs ++ more)) (digits_only c (run is_digit cs ++ more) s g h)).1;
+  longest = λ more after e h. longer_fails is_digit cs more after e (both_true (is_digit c) (list_all is_digit (run is_digit cs ++ more)) (digits_only c (run is_digit cs ++ more) s g h)).1;
 }
 
 -- ---- the split is the only one

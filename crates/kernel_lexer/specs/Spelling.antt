@@ -1,5 +1,7 @@
 -- How a token is spelled, and what a spelling stands for, on the characters of a text. This project's convention.
 use Rattle.std.specs.Prelude.{◌≡◌, ℕ, ◌+◌, ◌-◌, ◌*◌, ◌^◌, Bool, true, false, ◌&&◌, ◌||◌, ◌==◌, nat_le, nat_lt, if◌then◌else◌, List, [], ◌∷◌, ◌++◌, length, fold, Option, Some, None, codes, pos, is_some}
+use Rattle.std.specs.List.{list_all}
+use Rattle.std.specs.Map.{lookup}
 use Rattle.std.specs.Str.{encode_utf8_all, bytes_eq}
 use Rattle.unicode_ident.specs.Ident.{is_xid_start, is_xid_continue}
 use Rattle.kernel_lexer.specs.declared.token.Keyword.{Keyword}
@@ -31,25 +33,15 @@ starts c = is_xid_start c || c == 95
 abbrev pub continues : ℕ → Bool
 continues c = is_xid_continue c
 
--- whether each character passes
-abbrev pub all : (ℕ → Bool) → Text → Bool
-all p [] = true
-all p (c ∷ cs) = p c && all p cs
-
 -- a name or a reserved word
 abbrev pub is_word : Text → Bool
 is_word [] = false
-is_word (c ∷ cs) = starts c && all continues cs
+is_word (c ∷ cs) = starts c && list_all continues cs
 
 -- one digit or more
 abbrev pub is_digits : Text → Bool
 is_digits [] = false
-is_digits (c ∷ cs) = all is_digit (c ∷ cs)
-
--- what stands beside the first key that passes
-abbrev pub look_up : {K V : Type 0} → (K → Bool) → List (K × V) → Option V
-look_up p [] = None
-look_up p (e ∷ es) = if p e.0 then Some e.1 else look_up p es
+is_digits (c ∷ cs) = list_all is_digit (c ∷ cs)
 
 -- the signs of one character: { } [ ] ( ) ; , = + - * & | ^
 abbrev pub signs : List (ℕ × Mark)
@@ -59,7 +51,7 @@ signs =
 
 -- the sign of one character
 abbrev pub mark_of : ℕ → Option Mark
-mark_of c = look_up (λ k. c == k) signs
+mark_of c = lookup (λ k. c == k) signs
 
 -- the sign that characters spell: one of those, or two points
 abbrev pub sign_of : Text → Option Mark
@@ -91,7 +83,7 @@ reserved =
 
 -- the reserved word that characters spell
 abbrev pub keyword : Text → Option Keyword
-keyword w = look_up (λ k. bytes_eq w k) reserved
+keyword w = lookup (λ k. bytes_eq w k) reserved
 
 -- a word that is not reserved is a name
 abbrev pub named : Option Keyword → TokenKind

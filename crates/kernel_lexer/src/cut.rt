@@ -1,6 +1,7 @@
 //! The token at the front of a list of characters.
 
 ghost use Rattle.std.specs.Prelude.{◌∷◌, ◌++◌, ◌^◌, pos, IfSome, IfNone, IsTrue, ◌≡◌, ◌≤◌, ◌<◌, ℕ, length, take, true, false};
+ghost use Rattle.std.specs.List.{list_all};
 ghost use Rattle.kernel_lexer.specs.Spelling as spelling;
 ghost use Rattle.kernel_lexer.specs.Spelling.{Text};
 ghost use Rattle.kernel_lexer.specs.Lexing as lexing;
@@ -111,7 +112,7 @@ fn word_kind(word: &[char]) -> TokenKind
 
 /// The number that the digits stand for, where it has 63 bits.
 fn value(digits: &[char]) -> Option<i64>
-    requires { IsTrue (spelling.all spelling.is_digit digits.now) }
+    requires { IsTrue (list_all spelling.is_digit digits.now) }
     ensures some { IfSome result (λ n. (n ≡ pos (spelling.value digits.now)) × (spelling.value digits.now < 2 ^ 63)) }
     ensures none { IfNone result (2 ^ 63 ≤ spelling.value digits.now) }
 {

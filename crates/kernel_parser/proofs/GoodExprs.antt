@@ -22,7 +22,8 @@ use Rattle.kernel_parser.specs.declared.raw.RawExpr.TheFolds.{fold-RawLink, fold
 use Rattle.kernel_parser.specs.declared.raw.RawLink.{RawLink, roll-RawLink}
 use Rattle.kernel_parser.specs.Names as names
 use Rattle.kernel_parser.specs.declared.names.fault.Fault.TheVariants as faults
-use Rattle.kernel_parser.specs.NameFaults.{NameFault, joined, unless}
+use Rattle.kernel_ast.specs.Walk.{joined}
+use Rattle.kernel_parser.specs.NameFaults.{NameFault, unless}
 use Rattle.kernel_parser.specs.Names.{Known}
 use Rattle.kernel_parser.specs.Resolved as tree
 use Rattle.kernel_parser.specs.RawFits as fits

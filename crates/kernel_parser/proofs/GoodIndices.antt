@@ -14,7 +14,8 @@ use Rattle.kernel_parser.specs.declared.raw.RawIndexTree.TheFolds.{fold-RawIndex
 use Rattle.kernel_parser.specs.declared.raw.RawIndexLink.{RawIndexLink, roll-RawIndexLink}
 use Rattle.kernel_parser.specs.declared.raw.RawIndex.{RawIndex}
 use Rattle.kernel_parser.specs.Names as names
-use Rattle.kernel_parser.specs.NameFaults.{NameFault, joined}
+use Rattle.kernel_ast.specs.Walk.{joined}
+use Rattle.kernel_parser.specs.NameFaults.{NameFault}
 use Rattle.kernel_parser.specs.Names.{Known}
 use Rattle.kernel_parser.specs.Resolved as tree
 use Rattle.kernel_parser.specs.RawFits as fits

@@ -1,6 +1,7 @@
 -- A text stands for one kernel or has one first fault.
 use Rattle.std.proofs.Common.{◌≡◌, ◌<◌, ◌≤◌, ℕ, List, [], ◌∷◌, length, Option, Some, None, refl, sym, ap, ◌∙◌, subst, arith, inl, inr, ◌⊎◌}
 use Rattle.kernel_ast.specs.KernelParts.{KernelParts}
+use Rattle.kernel_ast.specs.WellFormed.{IsWellFormed}
 use Rattle.kernel_lexer.specs.declared.token.Token.{Token}
 use Rattle.kernel_lexer.specs.Texts.{AreTextTokens, IsTextFault}
 use Rattle.kernel_lexer.proofs.Always.{always_one}
@@ -8,15 +9,18 @@ use Rattle.kernel_lexer.proofs.Fronts.{one_token_list, one_first_fault, never_bo
 use Rattle.kernel_parser.specs.declared.raw.RawKernel.{RawKernel}
 use Rattle.kernel_parser.specs.Grammar.{Whole}
 use Rattle.kernel_parser.specs.KernelTexts.{IsWritten, Reads, IsTokenFault, IsSyntaxFault, IsNameFault, IsFaultOfText, syntax_code}
-use Rattle.kernel_parser.specs.NameFaults.{NameFault, first}
+use Rattle.kernel_parser.specs.NameFaults.{NameFault}
 use Rattle.kernel_parser.specs.Names.{name_faults}
 use Rattle.kernel_parser.specs.Parsing.{whole}
 use Rattle.kernel_parser.specs.Reading.{place_of}
 use Rattle.kernel_parser.specs.Resolved.{tree_of}
-use Rattle.kernel_parser.specs.TextLaws.{OneKernel, OneTextFault, KernelWithoutFault, KernelOrFault}
+use Rattle.kernel_parser.specs.TextLaws.{OneKernel, OneTextFault, KernelWithoutFault, KernelOrFault, KernelsAreWellFormed}
+use Rattle.kernel_parser.proofs.GoodKernels.{kernel_holds}
 use Rattle.kernel_parser.proofs.KernelSteps.{whole_step}
+use Rattle.kernel_parser.proofs.ReadKernels.{text_fits}
 use Rattle.word_grammar.specs.declared.fault.Fault.{Fault}
 use Rattle.word_grammar.specs.Faults.{IsFaultOf}
+use Rattle.word_grammar.specs.Readers.{first}
 use Rattle.word_grammar.proofs.Texts.{only_reading, one_fault, never_both as no_syntax_fault, word_or_fault}
 
 -- ---- one tree
@@ -28,6 +32,10 @@ one_tree text ts us a b h g =
 
 pub one_kernel : OneKernel
 one_kernel text a b h g = h.means ∙ ap (tree_of text) (one_tree text h.tokens g.tokens h.raw g.raw h.written g.written) ∙ sym g.means
+
+pub kernels_are_well_formed : KernelsAreWellFormed
+kernels_are_well_formed text k h =
+    subst IsWellFormed (sym h.means) (kernel_holds text h.raw (text_fits text h.tokens h.raw h.written.short h.written.spelled h.written.read) h.faultless)
 
 -- ---- faults of phases exclude each other
 

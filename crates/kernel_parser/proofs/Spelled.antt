@@ -3,13 +3,13 @@ use Rattle.std.proofs.Common.{◌≡◌, ℕ, ℤ, pos, ◌+◌, ◌<◌, ◌≤
 use Rattle.std.specs.Prelude.{bytes_eq, ◌||◌}
 use Rattle.std.specs.List.{All, list_all, list_any}
 use Rattle.std.proofs.lemmas.List.Elements.{All-nil, All-cons}
+use Rattle.std.specs.Map.{lookup}
 use Rattle.std.specs.Str.{chars, encode_utf8_all}
 use Rattle.std.proofs.lemmas.Bool.{ltb-true, le-leb, leb-true}
 use Rattle.std.proofs.lemmas.Str.{chars_from_encodes, encodes-IsAscii, encodes_same}
 use Rattle.std.proofs.lemmas.Str.Ascii.{IsAscii-from_all}
 use Rattle.std.proofs.lemmas.Slice.Eq.{bytes_eq-Decides}
-use Rattle.unicode_ident.specs.Ident.{is_xid_continue}
-use Rattle.kernel_ast.specs.Names.{IsName, is_spelled, starts_name}
+use Rattle.kernel_ast.specs.Names.{IsName, is_spelled}
 use Rattle.kernel_ast.specs.WellFormed as good
 use Rattle.kernel_lexer.specs.declared.token.Keyword.{Keyword}
 use Rattle.kernel_lexer.specs.declared.token.Mark.{Mark}
@@ -19,7 +19,7 @@ use Rattle.kernel_lexer.specs.declared.token.TokenKind.{TokenKind}
 use Rattle.kernel_lexer.specs.declared.token.TokenKind.TheVariants as k
 use Rattle.kernel_lexer.specs.declared.token.Token.{Token}
 use Rattle.kernel_lexer.specs.Laws.{IsSpelled, AreSpans}
-use Rattle.kernel_lexer.specs.Spelling.{Text, bytes, all, continues, is_digits, is_word, keyword, look_up, named, reserved, sign_of, signed, value}
+use Rattle.kernel_lexer.specs.Spelling.{Text, bytes, is_digits, is_word, keyword, named, reserved, sign_of, signed, value}
 use Rattle.kernel_lexer.specs.Texts.{AreTextTokens}
 use Rattle.kernel_lexer.proofs.Spans.{spans_rise}
 use Rattle.kernel_parser.specs.Names.{word}
@@ -74,13 +74,9 @@ name_parts false small true false n key mark h = absurd (cc)
 name_parts false small false short n key None h = absurd (cc)
 name_parts false small false short n key (Some mark) h = absurd (cc)
 
-all_same : (cs : Text) → all continues cs ≡ list_all is_xid_continue cs
-all_same [] = refl
-all_same (c ∷ cs) = ap (λ z. is_xid_continue c && z) (all_same cs)
-
 spelled_same : (cs : Text) → is_word cs ≡ is_spelled cs
 spelled_same [] = refl
-spelled_same (c ∷ cs) = ap (λ z. starts_name c && z) (all_same cs)
+spelled_same (c ∷ cs) = refl
 
 -- whether all characters are ASCII
 abbrev is_plain : Text → Bool
@@ -106,10 +102,10 @@ not_key false false key more h f = (refl, h)
 same_bytes : (cs bs r : List ℕ) → encode_utf8_all cs ≡ bs → is_plain r ≡ true → bytes_eq bs r ≡ true → bytes_eq cs r ≡ true
 same_bytes cs bs r e p h = (bytes_eq-Decides cs r).1 (encodes_same cs r (e ∙ (bytes_eq-Decides bs r).0 h ∙ sym (plain_encoded r p)))
 
-not_reserved : (cs bs : List ℕ) → encode_utf8_all cs ≡ bs → (es : List (Text × Keyword)) → Plain es → look_up (λ r. bytes_eq cs r) es ≡ None → list_any (bytes_eq bs) (map (λ e. e.0) es) ≡ false
+not_reserved : (cs bs : List ℕ) → encode_utf8_all cs ≡ bs → (es : List (Text × Keyword)) → Plain es → lookup (λ r. bytes_eq cs r) es ≡ None → list_any (bytes_eq bs) (map (λ e. e.0) es) ≡ false
 not_reserved cs bs e [] p h = refl
 not_reserved cs bs e ((r, key) ∷ es) p h =
-    let x = not_key (bytes_eq cs r) (bytes_eq bs r) key (look_up (λ r. bytes_eq cs r) es) h (same_bytes cs bs r e p.0) in
+    let x = not_key (bytes_eq cs r) (bytes_eq bs r) key (lookup (λ r. bytes_eq cs r) es) h (same_bytes cs bs r e p.0) in
     ap (λ z. z || list_any (bytes_eq bs) (map (λ e. e.0) es)) x.0 ∙ not_reserved cs bs e es p.1 x.1
 
 reserved_plain : Plain reserved

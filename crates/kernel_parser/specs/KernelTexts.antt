@@ -12,13 +12,13 @@ use Rattle.kernel_parser.specs.declared.raw.RawKernel.{RawKernel}
 use Rattle.kernel_parser.specs.declared.syntax.SyntaxEnd.{SyntaxEnd}
 use Rattle.kernel_parser.specs.declared.syntax.SyntaxEnd.TheVariants as syntax
 use Rattle.kernel_parser.specs.Grammar.{Whole}
-use Rattle.kernel_parser.specs.NameFaults.{first}
 use Rattle.kernel_parser.specs.Names.{name_faults}
 use Rattle.kernel_parser.specs.Reading.{place_of}
 use Rattle.kernel_parser.specs.Resolved.{tree_of}
 use Rattle.word_grammar.specs.declared.fault.Fault.{Fault as GrammarFault}
 use Rattle.word_grammar.specs.declared.fault.Fault.TheVariants.{Syntax, TooDeep}
 use Rattle.word_grammar.specs.Faults.{IsFaultOf}
+use Rattle.word_grammar.specs.Readers.{first}
 
 -- ---- kernels
 

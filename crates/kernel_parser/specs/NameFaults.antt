@@ -1,5 +1,5 @@
 -- The faults of names, and their codes (this project's convention).
-use Rattle.std.specs.Prelude.{ℕ, Bool, if◌then◌else◌, List, [], ◌∷◌, ◌++◌, Option, Some, None}
+use Rattle.std.specs.Prelude.{ℕ, Bool, if◌then◌else◌, List, [], ◌∷◌}
 use Rattle.kernel_parser.specs.declared.names.fault.Fault.{Fault}
 use Rattle.kernel_parser.specs.declared.names.fault.Fault.TheVariants.{Unknown, Twice, Indices, NotWritable, BadSize}
 
@@ -23,13 +23,3 @@ fault f at = record { code = code_of f; at = at }
 -- this fault at a place, where the test fails
 abbrev pub unless : Bool → Fault → ℕ → List NameFault
 unless test f at = if test then [] else fault f at ∷ []
-
--- the first of a list
-abbrev pub first : {A : Type 0} → List A → Option A
-first [] = None
-first (a ∷ more) = Some a
-
--- the faults of one part after another
-abbrev pub joined : List (List NameFault) → List NameFault
-joined [] = []
-joined (faults ∷ more) = faults ++ joined more

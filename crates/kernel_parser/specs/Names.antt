@@ -5,7 +5,8 @@ use Rattle.kernel_ast.specs.WellFormed.{has_sizes, is_writable}
 use Rattle.kernel_parser.specs.declared.names.scope.Meaning.{Meaning}
 use Rattle.kernel_parser.specs.declared.names.scope.Meaning.TheVariants.{Turn, Element, Unknown}
 use Rattle.kernel_parser.specs.declared.names.fault.Fault.TheVariants as faults
-use Rattle.kernel_parser.specs.NameFaults.{NameFault, fault, unless, joined}
+use Rattle.kernel_ast.specs.Walk.{joined}
+use Rattle.kernel_parser.specs.NameFaults.{NameFault, fault, unless}
 use Rattle.kernel_parser.specs.declared.raw.Span.{Span}
 use Rattle.kernel_parser.specs.declared.raw.RawSize.{RawSize}
 use Rattle.kernel_parser.specs.declared.raw.RawDecl.{RawDecl}

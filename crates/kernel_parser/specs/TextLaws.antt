@@ -1,11 +1,16 @@
 -- Laws of the texts of kernels. Calls of this crate carry them.
 use Rattle.std.specs.Prelude.{◌≡◌, ◌⊎◌, ℕ, List}
 use Rattle.kernel_ast.specs.KernelParts.{KernelParts}
+use Rattle.kernel_ast.specs.WellFormed.{IsWellFormed}
 use Rattle.kernel_parser.specs.KernelTexts.{Reads, IsFaultOfText}
 
 -- A text stands for at most one kernel.
 abbrev pub OneKernel : Type 0
 OneKernel = (text : List ℕ) (a b : KernelParts) → Reads text a → Reads text b → a ≡ b
+
+-- The kernel that a text stands for is well formed.
+abbrev pub KernelsAreWellFormed : Type 0
+KernelsAreWellFormed = (text : List ℕ) (kernel : KernelParts) → Reads text kernel → IsWellFormed kernel
 
 -- A text has at most one first fault.
 abbrev pub OneTextFault : Type 0

@@ -1,6 +1,6 @@
 //! Laws of the grammar and of texts. A call does nothing: its contract is the law.
 ghost use Rattle.kernel_parser.specs.Laws.{OneReading, MoreLevels, OneFault, NeverBoth, ReadingOrFault};
-ghost use Rattle.kernel_parser.specs.TextLaws.{OneKernel, OneTextFault, KernelWithoutFault, KernelOrFault};
+ghost use Rattle.kernel_parser.specs.TextLaws.{OneKernel, OneTextFault, KernelWithoutFault, KernelOrFault, KernelsAreWellFormed};
 
 /// Each list of tokens has exactly one of two: a reading within the limit, the only one of any number of levels, or a first fault,
 /// the only one.
@@ -12,9 +12,11 @@ pub fn one_answer()
     ensures always { ReadingOrFault }
 {}
 
-/// Each text has exactly one of two: a kernel that it stands for, the only one, or a first fault, the only one.
+/// Each text has exactly one of two: a kernel that it stands for, the only one, or a first fault, the only one. The kernel is well
+/// formed.
 pub fn kernel_or_fault()
     ensures one_kernel { OneKernel }
+    ensures well_formed { KernelsAreWellFormed }
     ensures one_fault { OneTextFault }
     ensures never_both { KernelWithoutFault }
     ensures always_one { KernelOrFault }

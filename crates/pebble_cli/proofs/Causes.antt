@@ -7,12 +7,12 @@ use Rattle.pebble_cli.specs.declared.status.Status.{Status}
 use Rattle.pebble_cli.specs.declared.status.Status.TheVariants.{Optimal, Usage, Kernel, TooSmall, Open, ReadFault, WriteFault, NoMemory}
 use Rattle.pebble_cli.specs.declared.words.Command.{Command}
 use Rattle.pebble_cli.specs.declared.words.Command.TheVariants as asked
-use Rattle.pebble_cli.specs.SimpleKernels.{KernelParts}
-use Rattle.pebble_cli.specs.SimpleGraphs.{IsSimple}
+use Rattle.kernel_ast.specs.KernelParts.{KernelParts}
+use Rattle.pebble_cli.specs.Accepted.{IsAccepted, IsKernelFault}
 use Rattle.pebble_cli.specs.PlanCode.{bound_of}
 use Rattle.pebble_cli.specs.PlanAnswers.{IsPlanned, game_parts, first_cost}
-use Rattle.pebble_cli.specs.Answers.{Answers, Refuses, Plans, IsFaulty, IsTooSmall, IsNotSimple, IsOfRead}
-use Rattle.pebble_cli.proofs.SimpleTextLaws.{one_reading}
+use Rattle.pebble_cli.specs.Answers.{Answers, Refuses, Plans, IsFaulty, IsTooSmall, IsOfRead}
+use Rattle.pebble_cli.proofs.Accepting.{accepted_once, no_fault_of_accepted}
 
 -- the two ways to refuse a text
 refuses : (slots : ℕ) (text : List ℕ) (status : Status) (printed : List ℕ) (table : Option (List ℕ)) → Refuses slots text status printed table →
@@ -112,36 +112,36 @@ usage_of (Some (asked.Plan slots budget)) text status printed table h is =
 
 -- ---- what is answered to each kind of text
 
-pub answer_to_faulty : (slots budget : ℕ) (text : List ℕ) (status : Status) (printed : List ℕ) (table : Option (List ℕ)) →
-    Answers (Some (asked.Plan slots budget)) text status printed table → IsNotSimple text → status ≡ Kernel
-answer_to_faulty slots budget text status printed table h bad =
+pub answer_to_faulty : (slots budget : ℕ) (text : List ℕ) (code at : ℕ) (status : Status) (printed : List ℕ) (table : Option (List ℕ)) →
+    Answers (Some (asked.Plan slots budget)) text status printed table → IsKernelFault text code at → status ≡ Kernel
+answer_to_faulty slots budget text code at status printed table h bad =
     elim (one_of slots budget text status printed table h).cases [
       | inl (inl k) ↦ k.0
-      | inl (inr k) ↦ absurd (bad k.1.kernel k.1.graph k.1.simple)
-      | inr (inl k) ↦ absurd (bad k.1.kernel k.1.graph k.1.simple)
-      | inr (inr k) ↦ absurd (bad k.1.kernel k.1.graph k.1.simple)
+      | inl (inr k) ↦ absurd (no_fault_of_accepted text k.1.kernel k.1.graph code at k.1.accepted bad)
+      | inr (inl k) ↦ absurd (no_fault_of_accepted text k.1.kernel k.1.graph code at k.1.accepted bad)
+      | inr (inr k) ↦ absurd (no_fault_of_accepted text k.1.kernel k.1.graph code at k.1.accepted bad)
     ]
 
 -- the degree of the one graph of a text
-one_degree : (text : List ℕ) (k j : KernelParts) (g h : GraphParts) → IsSimple text k g → IsSimple text j h → degree (dag_of g) ≡ degree (dag_of h)
-one_degree text k j g h a b = ap (λ x. degree (dag_of x)) (one_reading text k j g h a b).1
+one_degree : (text : List ℕ) (k j : KernelParts) (g h : GraphParts) → IsAccepted text k g → IsAccepted text j h → degree (dag_of g) ≡ degree (dag_of h)
+one_degree text k j g h a b = ap (λ x. degree (dag_of x)) (accepted_once text k j g h a b).1
 
 pub answer_to_small : (slots budget : ℕ) (text : List ℕ) (kernel : KernelParts) (graph : GraphParts) (status : Status) (printed : List ℕ) (table : Option (List ℕ)) →
-    Answers (Some (asked.Plan slots budget)) text status printed table → IsSimple text kernel graph → slots ≤ degree (dag_of graph) → status ≡ TooSmall
-answer_to_small slots budget text kernel graph status printed table h simple small =
+    Answers (Some (asked.Plan slots budget)) text status printed table → IsAccepted text kernel graph → slots ≤ degree (dag_of graph) → status ≡ TooSmall
+answer_to_small slots budget text kernel graph status printed table h accepted small =
     elim (one_of slots budget text status printed table h).cases [
-      | inl (inl k) ↦ absurd (k.1.fault kernel graph simple)
+      | inl (inl k) ↦ absurd (no_fault_of_accepted text kernel graph k.1.code k.1.at accepted k.1.fault)
       | inl (inr k) ↦ k.0
-      | inr (inl k) ↦ absurd (omega (arith, k.1.room, one_degree text kernel k.1.kernel graph k.1.graph simple k.1.simple))
-      | inr (inr k) ↦ absurd (omega (arith, k.1.room, one_degree text kernel k.1.kernel graph k.1.graph simple k.1.simple))
+      | inr (inl k) ↦ absurd (omega (arith, k.1.room, one_degree text kernel k.1.kernel graph k.1.graph accepted k.1.accepted))
+      | inr (inr k) ↦ absurd (omega (arith, k.1.room, one_degree text kernel k.1.kernel graph k.1.graph accepted k.1.accepted))
     ]
 
 pub answer_to_room : (slots budget : ℕ) (text : List ℕ) (kernel : KernelParts) (graph : GraphParts) (status : Status) (printed : List ℕ) (table : Option (List ℕ)) →
-    Answers (Some (asked.Plan slots budget)) text status printed table → IsSimple text kernel graph → degree (dag_of graph) < slots → (status ≡ Optimal) ⊎ (status ≡ Open)
-answer_to_room slots budget text kernel graph status printed table h simple room =
+    Answers (Some (asked.Plan slots budget)) text status printed table → IsAccepted text kernel graph → degree (dag_of graph) < slots → (status ≡ Optimal) ⊎ (status ≡ Open)
+answer_to_room slots budget text kernel graph status printed table h accepted room =
     elim (one_of slots budget text status printed table h).cases [
-      | inl (inl k) ↦ absurd (k.1.fault kernel graph simple)
-      | inl (inr k) ↦ absurd (omega (arith, k.1.small, one_degree text kernel k.1.kernel graph k.1.graph simple k.1.simple))
+      | inl (inl k) ↦ absurd (no_fault_of_accepted text kernel graph k.1.code k.1.at accepted k.1.fault)
+      | inl (inr k) ↦ absurd (omega (arith, k.1.small, one_degree text kernel k.1.kernel graph k.1.graph accepted k.1.accepted))
       | inr (inl k) ↦ inl k.0
       | inr (inr k) ↦ inr k.0
     ]
@@ -156,32 +156,32 @@ answers_at {command = command} {told = told} status printed table same is h =
 
 -- the graph of a planned text is the one of each reading
 planned_graph : (text : List ℕ) (kernel : KernelParts) (graph : GraphParts) (slots budget : ℕ) (optimal : Bool) (printed : List ℕ) (table : Option (List ℕ))
-    → IsSimple text kernel graph → (h : IsPlanned slots budget text optimal printed table) → (h.plan.bound ≡ bound_of (game_parts graph slots)) × (h.plan.cost ≡ first_cost graph slots)
-planned_graph text kernel graph slots budget optimal printed table simple h =
-    let same = (one_reading text h.kernel kernel h.graph graph h.simple simple).1 in
+    → IsAccepted text kernel graph → (h : IsPlanned slots budget text optimal printed table) → (h.plan.bound ≡ bound_of (game_parts graph slots)) × (h.plan.cost ≡ first_cost graph slots)
+planned_graph text kernel graph slots budget optimal printed table accepted h =
+    let same = (accepted_once text h.kernel kernel h.graph graph h.accepted accepted).1 in
     (h.answer.bound ∙ ap (λ g. bound_of (game_parts g slots)) same, h.answer.cost ∙ h.answer.first ∙ ap (λ g. first_cost g slots) same)
 
 pub answer_to_tight : (slots budget : ℕ) (text : List ℕ) (kernel : KernelParts) (graph : GraphParts) (status : Status) (printed : List ℕ) (table : Option (List ℕ)) →
-    Answers (Some (asked.Plan slots budget)) text status printed table → IsSimple text kernel graph → degree (dag_of graph) < slots → bound_of (game_parts graph slots) ≡ first_cost graph slots → status ≡ Optimal
-answer_to_tight slots budget text kernel graph status printed table h simple room tight =
+    Answers (Some (asked.Plan slots budget)) text status printed table → IsAccepted text kernel graph → degree (dag_of graph) < slots → bound_of (game_parts graph slots) ≡ first_cost graph slots → status ≡ Optimal
+answer_to_tight slots budget text kernel graph status printed table h accepted room tight =
     elim (one_of slots budget text status printed table h).cases [
-      | inl (inl k) ↦ absurd (k.1.fault kernel graph simple)
-      | inl (inr k) ↦ absurd (omega (arith, k.1.small, one_degree text kernel k.1.kernel graph k.1.graph simple k.1.simple))
+      | inl (inl k) ↦ absurd (no_fault_of_accepted text kernel graph k.1.code k.1.at accepted k.1.fault)
+      | inl (inr k) ↦ absurd (omega (arith, k.1.small, one_degree text kernel k.1.kernel graph k.1.graph accepted k.1.accepted))
       | inr (inl k) ↦ k.0
       | inr (inr k) ↦
-          let numbers = planned_graph text kernel graph slots budget false printed table simple k.1 in
+          let numbers = planned_graph text kernel graph slots budget false printed table accepted k.1 in
           let below = (k.1.answer.is_open.0 k.1.verdict).1 in
           absurd (omega (arith, numbers.0, numbers.1, below, tight))
     ]
 
 pub answer_to_loose : (slots budget : ℕ) (text : List ℕ) (kernel : KernelParts) (graph : GraphParts) (status : Status) (printed : List ℕ) (table : Option (List ℕ)) →
-    Answers (Some (asked.Plan slots budget)) text status printed table → IsSimple text kernel graph → degree (dag_of graph) < slots → bound_of (game_parts graph slots) < first_cost graph slots → status ≡ Open
-answer_to_loose slots budget text kernel graph status printed table h simple room loose =
+    Answers (Some (asked.Plan slots budget)) text status printed table → IsAccepted text kernel graph → degree (dag_of graph) < slots → bound_of (game_parts graph slots) < first_cost graph slots → status ≡ Open
+answer_to_loose slots budget text kernel graph status printed table h accepted room loose =
     elim (one_of slots budget text status printed table h).cases [
-      | inl (inl k) ↦ absurd (k.1.fault kernel graph simple)
-      | inl (inr k) ↦ absurd (omega (arith, k.1.small, one_degree text kernel k.1.kernel graph k.1.graph simple k.1.simple))
+      | inl (inl k) ↦ absurd (no_fault_of_accepted text kernel graph k.1.code k.1.at accepted k.1.fault)
+      | inl (inr k) ↦ absurd (omega (arith, k.1.small, one_degree text kernel k.1.kernel graph k.1.graph accepted k.1.accepted))
       | inr (inl k) ↦
-          let numbers = planned_graph text kernel graph slots budget true printed table simple k.1 in
+          let numbers = planned_graph text kernel graph slots budget true printed table accepted k.1 in
           let equal = k.1.answer.is_optimal.0 k.1.verdict in
           absurd (omega (arith, numbers.0, numbers.1, equal, loose))
       | inr (inr k) ↦ k.0

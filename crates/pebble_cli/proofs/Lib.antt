@@ -1,6 +1,8 @@
+pub mod Accepting
 pub mod Causes
 pub mod Cut
 pub mod Emitting
+pub mod GraphValues
 pub mod Placing
 pub mod PlanCalls
 pub mod PlanLists
@@ -8,12 +10,4 @@ pub mod PlanNeat
 pub mod PlanPlain
 pub mod PlanRight
 pub mod Planning
-pub mod SimpleGraphLaws
-pub mod SimpleKernelLaws
-pub mod SimpleLogs
-pub mod SimpleMeanings
-pub mod SimpleStepLaws
-pub mod SimpleTextLaws
-pub mod SimpleTokenLaws
-pub mod SimpleValues
 pub mod Told

@@ -3,7 +3,7 @@ use Rattle.std.proofs.Common.{◌≡◌, ℕ, ℤ, ◌+◌, ◌≤◌, ◌<◌, 
 use Rattle.std.proofs.lemmas.Bool.{cases_eq, eqb-true, eq-eqb, ne_eqb, false≢true}
 use Rattle.comp_graph.specs.declared.node.Output.{Output}
 use Rattle.comp_graph.specs.Dags.{degree}
-use Rattle.comp_graph.specs.Graphs.{GraphParts, dag_of}
+use Rattle.comp_graph.specs.Graphs.{GraphParts, IsGraph, dag_of}
 use Rattle.comp_graph.specs.Games.{GameParts, IsGame, game_on}
 use Rattle.comp_graph.proofs.GraphLaws.{IsDag-dag_of}
 use Rattle.pebble_rules.specs.declared.moves.Move.{Move}
@@ -14,34 +14,33 @@ use Rattle.scratch_machine.specs.Values.{output_values}
 use Rattle.scratch_machine.specs.CodePlays.{loads, stores}
 use Rattle.pebble_cli.specs.declared.status.Status.{Status}
 use Rattle.pebble_cli.specs.declared.status.Status.TheVariants.{TooSmall}
-use Rattle.pebble_cli.specs.SimpleKernels.{KernelParts}
-use Rattle.pebble_cli.specs.SimpleGraphs.{IsSimple, graph_of}
+use Rattle.kernel_ast.specs.KernelParts.{KernelParts}
+use Rattle.plain_kernels.proofs.KernelGraphLaws.{outputs-graph_of}
+use Rattle.kernel_parser.proofs.OneText.{kernels_are_well_formed}
+use Rattle.pebble_cli.specs.Accepted.{IsAccepted}
 use Rattle.pebble_cli.specs.Emitted.{Layout, output_words, laid_all, first_layout}
 use Rattle.pebble_cli.specs.PlanCode.{moves_of, plain_code, plain_total, bound_of}
 use Rattle.pebble_cli.specs.TableBytes.{empty_table_bytes}
 use Rattle.pebble_cli.specs.PlanAnswers.{RunsRight, IsAnswer, plain_plan, plan_text, IsPlanned}
 use Rattle.pebble_cli.specs.Answers.{Plans, Refuses, IsTooSmall, too_small_text, verdict_status}
 use Rattle.pebble_cli.proofs.PlanRight.{plain_code_is_right}
-use Rattle.pebble_cli.proofs.SimpleGraphLaws.{IsGraph-graph_of}
-use Rattle.pebble_cli.proofs.SimpleMeanings.{graphs_have_the_meaning, graphs_keep_the_names}
-use Rattle.pebble_cli.proofs.SimpleValues.{values_exist}
+use Rattle.pebble_cli.proofs.Accepting.{accepted_graph, accepted_labels}
+use Rattle.pebble_cli.proofs.GraphValues.{values_exist}
 
 labels_kept : (l : Layout) (os : List Output) → map (λ (o : OutWord). o.label) (output_words l os) ≡ map (λ (o : Output). o.label) os
 labels_kept l [] = refl
 labels_kept l (o ∷ os) = ap (λ xs. o.label ∷ xs) (labels_kept l os)
 
 -- the code of the plain plan gives the source's outputs
-runs_right : (g : GameParts) (kernel : KernelParts) → IsGame g → graph_of kernel ≡ Some g.graph → (values : List ℤ) → length values ≡ length g.graph.names
+runs_right : (g : GameParts) (text : List ℕ) (kernel : KernelParts) → IsGame g → IsAccepted text kernel g.graph → (values : List ℤ) → length values ≡ length g.graph.names
     → RunsRight kernel (plain_code g) (plain_total g) values
-runs_right g kernel game evaluated values count =
+runs_right g text kernel game accepted values count =
     let right = plain_code_is_right g game in
     let valuation = values_exist g.graph game.valid values count in
     record {
-      outputs = output_values g.graph valuation.0;
-      source = graphs_have_the_meaning kernel g.graph evaluated values count valuation.0 valuation.1;
       ending = record { outputs = output_values g.graph valuation.0; loads = loads (moves_of g); stores = stores (moves_of g) };
       runs = right.runs values count valuation.0 valuation.1;
-      same = refl;
+      same = sym (outputs-graph_of kernel g.graph values valuation.0 (kernels_are_well_formed text kernel accepted.reads) accepted.plain.evaluated count valuation.1);
       counted = right.transfers;
     }
 
@@ -53,10 +52,10 @@ apart budget a b none below = (λ e. (omega arith, differs e), λ h. ne_eqb a b 
     differs e = elim (cases_eq a b) [ inl same ↦ absurd (false≢true (sym e ∙ eq-eqb a b same)) | inr other ↦ omega arith ]
 
 -- the plain plan is an answer
-pub plain_plan_answers : (g : GameParts) (kernel : KernelParts) (budget : ℕ) → IsGame g → graph_of kernel ≡ Some g.graph → budget ≡ 0 → IsAnswer kernel g.graph g.slots budget (plain_plan g)
-plain_plan_answers g kernel budget game evaluated none =
+pub plain_plan_answers : (g : GameParts) (text : List ℕ) (kernel : KernelParts) (budget : ℕ) → IsGame g → IsAccepted text kernel g.graph → budget ≡ 0 → IsAnswer kernel g.graph g.slots budget (plain_plan g)
+plain_plan_answers g text kernel budget game accepted none =
     let right = plain_code_is_right g game in
-    let names = graphs_keep_the_names kernel g.graph evaluated in
+    let names = accepted_labels accepted in
     let below : bound_of g ≤ plain_total g = omega (arith, right.least (moves_of g) right.complete, right.costs) in
     record {
       first = sym right.costs;
@@ -70,7 +69,7 @@ plain_plan_answers g kernel budget game evaluated none =
       code_bounds = right.valid;
       code_inputs = names.inputs;
       code_outputs = labels_kept (laid_all (first_layout g.graph g.slots) (moves_of g)) g.graph.outputs ∙ names.outputs;
-      right = λ values count. runs_right g kernel game evaluated values (count ∙ ap length (sym names.inputs));
+      right = λ values count. runs_right g text kernel game accepted values (count ∙ ap length (sym names.inputs));
       played = record { moves = moves_of g; complete = right.complete; costs = right.costs; plays = right.plays };
       lowest = right.least;
     }
@@ -82,42 +81,41 @@ by_verdict slots budget text false printed table h = h
 
 -- what is printed and written of the plain plan answers the text
 pub plain_plan_is_planned : (g : GameParts) (budget : ℕ) (text : List ℕ) (kernel : KernelParts) (status : Status) (printed table : List ℕ)
-    → IsGame g → IsSimple text kernel g.graph → budget ≡ 0
+    → IsGame g → IsAccepted text kernel g.graph → budget ≡ 0
     → status ≡ verdict_status (plain_plan g).optimal
     → printed ≡ plan_text g.graph.title g.graph g.slots budget (plain_plan g)
     → table ≡ empty_table_bytes (length g.graph.nodes) g.slots (bound_of g)
     → Plans g.slots budget text status printed (Some table)
-plain_plan_is_planned g budget text kernel status printed table game simple none verdict report bytes =
+plain_plan_is_planned g budget text kernel status printed table game accepted none verdict report bytes =
     let planned : IsPlanned g.slots budget text (plain_plan g).optimal printed (Some table) = record {
       kernel = kernel;
       graph = g.graph;
-      simple = simple;
+      accepted = accepted;
       valid = game.valid;
       room = game.room;
       plan = plain_plan g;
-      answer = plain_plan_answers g kernel budget game simple.evaluated none;
+      answer = plain_plan_answers g text kernel budget game accepted none;
       verdict = refl;
-      report = report ∙ ap (λ t. plan_text t g.graph g.slots budget (plain_plan g)) (graphs_keep_the_names kernel g.graph simple.evaluated).title;
+      report = report ∙ ap (λ t. plan_text t g.graph g.slots budget (plain_plan g)) (accepted_labels accepted).title;
       bytes = ap Some bytes;
     } in
     rw verdict (by_verdict g.slots budget text (plain_plan g).optimal printed (Some table) planned)
 
 -- with too few slots there is no complete pebbling
-too_few_slots : (kernel : KernelParts) (graph : GraphParts) (slots : ℕ) → graph_of kernel ≡ Some graph → 0 < slots → slots ≤ degree (dag_of graph) → (moves : List Move) → IsComplete (game_on graph slots) (start (game_on graph slots)) moves → ⊥
-too_few_slots kernel graph slots evaluated some small =
-    (possible_above_degree (game_on graph slots) (IsDag-dag_of graph (IsGraph-graph_of kernel graph evaluated)) some).0 small
+too_few_slots : (graph : GraphParts) (slots : ℕ) → IsGraph graph → 0 < slots → slots ≤ degree (dag_of graph) → (moves : List Move) → IsComplete (game_on graph slots) (start (game_on graph slots)) moves → ⊥
+too_few_slots graph slots valid some small = (possible_above_degree (game_on graph slots) (IsDag-dag_of graph valid) some).0 small
 
 -- a kernel with too few slots
 pub too_small_is_refused : (slots needs : ℕ) (text : List ℕ) (kernel : KernelParts) (graph : GraphParts) (status : Status) (printed : List ℕ) (table : Option (List ℕ))
-    → 0 < slots → IsSimple text kernel graph → slots ≤ degree (dag_of graph) → needs ≡ degree (dag_of graph) + 1
+    → 0 < slots → IsAccepted text kernel graph → slots ≤ degree (dag_of graph) → needs ≡ degree (dag_of graph) + 1
     → status ≡ TooSmall → printed ≡ too_small_text needs → table ≡ None → Refuses slots text status printed table
-too_small_is_refused slots needs text kernel graph status printed table some simple small needed is line none =
+too_small_is_refused slots needs text kernel graph status printed table some accepted small needed is line none =
     let refused : IsTooSmall slots text printed table = record {
       kernel = kernel;
       graph = graph;
-      simple = simple;
+      accepted = accepted;
       small = small;
-      impossible = too_few_slots kernel graph slots simple.evaluated some small;
+      impossible = too_few_slots graph slots (accepted_graph accepted) some small;
       line = line ∙ ap too_small_text needed;
       none = none;
     } in

@@ -1,9 +1,9 @@
 -- There is a text that the desk tells, also where it tells none.
-use Rattle.std.proofs.Common.{◌<◌, ◌+◌, ℕ, List, [], length, replicate, None, Some, refl, arith}
+use Rattle.std.proofs.Common.{◌<◌, ◌+◌, ℕ, List, [], length, replicate, None, Some, refl, inl, arith}
 use Rattle.std.proofs.lemmas.List.{length-replicate}
 use Rattle.std.specs.declared.option.Option.{Option}
 use Rattle.desk_io.specs.Known.{Tells, TellsMore}
-use Rattle.pebble_cli.specs.Answers.{IsNotSimple}
+use Rattle.pebble_cli.specs.Accepted.{IsKernelFault}
 
 pub told_text : (known : Option (List ℕ)) → (text : List ℕ) × Tells known text
 told_text None = ([], tt)
@@ -13,6 +13,6 @@ pub told_more : (known : Option (List ℕ)) (limit : ℕ) → TellsMore known li
 told_more None limit more = (replicate (limit + 1) 0, tt, rw (length-replicate {A = ℕ} (limit + 1) 0) (omega arith))
 told_more (Some known) limit more = (known, refl, more)
 
--- a text of more than 65,536 bytes is not simple
-pub too_long : (text : List ℕ) → 65536 < length text → IsNotSimple text
-too_long text more kernel graph simple = omega (arith, simple.short)
+-- a text of more than 65,536 bytes is fault 15 there
+pub too_long : (text : List ℕ) → 65536 < length text → IsKernelFault text 15 65536
+too_long text more = inl (inl (record { long = more; code_is = refl; at_is = refl }))

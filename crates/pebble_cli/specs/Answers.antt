@@ -9,39 +9,37 @@ use Rattle.comp_graph.specs.Games.{game_on}
 use Rattle.pebble_rules.specs.declared.moves.Move.{Move}
 use Rattle.pebble_rules.specs.Rules.{start, IsComplete}
 use Rattle.comp_graph.specs.Graphs.{GraphParts, dag_of}
+use Rattle.kernel_ast.specs.KernelParts.{KernelParts}
 use Rattle.pebble_cli.specs.declared.status.Status.{Status}
 use Rattle.pebble_cli.specs.declared.status.Status.TheVariants.{Optimal, Usage, Kernel, TooSmall, Open, ReadFault, WriteFault, NoMemory}
 use Rattle.pebble_cli.specs.declared.words.Command.{Command}
 use Rattle.pebble_cli.specs.declared.words.Command.TheVariants as asked
-use Rattle.pebble_cli.specs.SimpleKernels.{KernelParts}
-use Rattle.pebble_cli.specs.SimpleGraphs.{IsSimple}
+use Rattle.pebble_cli.specs.Accepted.{IsAccepted, IsKernelFault}
 use Rattle.pebble_cli.specs.PlanAnswers.{IsPlanned}
 
 -- the line that says which words there are
 abbrev pub usage_text : List ℕ
 usage_text = codes "usage: pebble plan S TABLE [BUDGET], check S TABLE, run VALUES, exec VALUES, graph, trial N S TABLE\n"
 
--- the line for a text that is not simple
-abbrev pub not_simple_text : List ℕ
-not_simple_text = codes "kernel fault K0 at 0\n"
+-- the line for a fault of the kernel, with its code and its place in bytes from 0
+abbrev pub kernel_fault_text : ℕ → ℕ → List ℕ
+kernel_fault_text code at = codes "kernel fault K" ++ (decimal code ++ (codes " at " ++ (decimal at ++ codes "\n")))
 
 -- the line that says how many slots are needed
 abbrev pub too_small_text : ℕ → List ℕ
 too_small_text needs = codes "too small needs " ++ decimal needs ++ codes "\n"
-
--- no kernel and no graph are those of the text
-abbrev pub IsNotSimple : List ℕ → Type 0
-IsNotSimple text = (kernel : KernelParts) (graph : GraphParts) → IsSimple text kernel graph → ⊥
 
 -- the usage line is printed, and no table is written
 pub record IsUsage (printed : List ℕ) (table : Option (List ℕ)) : Type 0 where
   pub line : printed ≡ usage_text
   pub none : table ≡ None
 
--- the text is not simple, which is printed as fault 0 at 0, and no table is written
+-- the text has a fault, which is printed by its code and place, and no table is written
 pub record IsFaulty (text : List ℕ) (printed : List ℕ) (table : Option (List ℕ)) : Type 0 where
-  pub fault : IsNotSimple text
-  pub line : printed ≡ not_simple_text
+  pub code : ℕ
+  pub at : ℕ
+  pub fault : IsKernelFault text code at
+  pub line : printed ≡ kernel_fault_text code at
   pub none : table ≡ None
 
 -- there are no more slots than the degree of the text's graph, so there is no complete pebbling; the degree plus 1 is printed, and no
@@ -49,7 +47,7 @@ pub record IsFaulty (text : List ℕ) (printed : List ℕ) (table : Option (List
 pub record IsTooSmall (slots : ℕ) (text : List ℕ) (printed : List ℕ) (table : Option (List ℕ)) : Type 0 where
   pub kernel : KernelParts
   pub graph : GraphParts
-  pub simple : IsSimple text kernel graph
+  pub accepted : IsAccepted text kernel graph
   pub small : slots ≤ degree (dag_of graph)
   pub impossible : (moves : List Move) → IsComplete (game_on graph slots) (start (game_on graph slots)) moves → ⊥
   pub line : printed ≡ too_small_text (degree (dag_of graph) + 1)

@@ -10,10 +10,12 @@ use Rattle.scratch_machine.specs.declared.code.OutWord.{OutWord}
 use Rattle.scratch_machine.specs.Codes.{CodeParts, IsCode}
 use Rattle.scratch_machine.specs.Machines.{Ending, run, transfers}
 use Rattle.scratch_machine.specs.CodePlays.{CodePlays}
+use Rattle.kernel_ast.specs.declared.tree.DeclKind.TheVariants.{Input, Output}
+use Rattle.kernel_ast.specs.KernelParts.{KernelParts}
+use Rattle.kernel_ast.specs.Labels.{labels_of}
+use Rattle.kernel_ast.specs.Meaning.{outputs as source_outputs}
 use Rattle.pebble_cli.specs.declared.texts.report.Facts.{Facts}
-use Rattle.pebble_cli.specs.SimpleKernels.{KernelParts}
-use Rattle.pebble_cli.specs.SimpleGraphs.{IsSimple, input_names}
-use Rattle.pebble_cli.specs.SimpleMeaning.{source_outputs, output_names}
+use Rattle.pebble_cli.specs.Accepted.{IsAccepted}
 use Rattle.pebble_cli.specs.PlanCode.{moves_of, plain_code, plain_total, bound_of}
 use Rattle.pebble_cli.specs.ReportText.{report_text}
 use Rattle.pebble_cli.specs.CodeText.{code_text}
@@ -37,14 +39,12 @@ game_parts graph slots = record { graph = graph; slots = slots }
 abbrev pub first_cost : GraphParts → ℕ → ℕ
 first_cost graph slots = moves_cost (game_on graph slots) (moves_of (game_parts graph slots))
 
--- On these values of the inputs the source has outputs, and the run of the code meets no empty slot or word, gives the same outputs,
--- and makes this many loads and stores.
+-- On these values of the inputs the run of the code meets no empty slot or word, gives the outputs of the source, and makes this many
+-- loads and stores.
 pub record RunsRight (kernel : KernelParts) (code : CodeParts) (count : ℕ) (values : List ℤ) : Type 0 where
-  pub outputs : List ℤ
-  pub source : source_outputs kernel values ≡ Some outputs
   pub ending : Ending
   pub runs : run code values ≡ Ok ending
-  pub same : ending.outputs ≡ outputs
+  pub same : ending.outputs ≡ source_outputs kernel values
   pub counted : transfers ending ≡ count
 
 -- there is a complete pebbling of this cost that the code plays, by the rules of the game
@@ -66,14 +66,15 @@ pub record IsAnswer (kernel : KernelParts) (graph : GraphParts) (slots budget : 
   -- Optimal exactly where the bound is the cost; else as many positions as the budget were expanded, and the bound is below the cost
   pub is_optimal : (plan.optimal ≡ true) ↔ (plan.bound ≡ plan.cost)
   pub is_open : (plan.optimal ≡ false) ↔ ((plan.expanded ≡ budget) × (plan.bound < plan.cost))
-  -- the code has these slots, names no slot or word that it has not, and has the kernel's inputs and outputs in order of declaration
+  -- the code has these slots, names no slot or word that it has not, and has the labels of the kernel's input and output elements,
+  -- in order of declaration and row by row
   pub code_slots : plan.code.slots ≡ slots
   pub code_bounds : IsCode plan.code
-  pub code_inputs : plan.code.inputs ≡ input_names kernel.decls
-  pub code_outputs : map (λ (o : OutWord). o.label) plan.code.outputs ≡ output_names kernel.decls
-  -- the code is right on every list of as many values as the kernel has inputs, those of 64 bits among them, with exactly as many
+  pub code_inputs : plan.code.inputs ≡ labels_of Input kernel.decls
+  pub code_outputs : map (λ (o : OutWord). o.label) plan.code.outputs ≡ labels_of Output kernel.decls
+  -- the code is right on every list of as many values as the kernel has input elements, those of 64 bits among them, with exactly as many
   -- loads and stores as the cost
-  pub right : (values : List ℤ) → length values ≡ length (input_names kernel.decls) → RunsRight kernel plan.code plan.cost values
+  pub right : (values : List ℤ) → length values ≡ length (labels_of Input kernel.decls) → RunsRight kernel plan.code plan.cost values
   -- the code plays a complete pebbling of its cost, so an operation never writes over the slot of an operand
   pub played : PlaysPebbling graph slots plan.code plan.cost
   -- no complete pebbling costs less than the bound, whatever it computes again, drops or moves in vain
@@ -109,12 +110,12 @@ facts_of graph slots budget plan = record {
 abbrev pub plan_text : List ℕ → GraphParts → ℕ → ℕ → Plan → List ℕ
 plan_text title graph slots budget plan = report_text title (facts_of graph slots budget plan) ++ code_text plan.code
 
--- The text is a simple kernel's with more slots than the degree of its graph, a plan with this verdict answers it, the report and the
+-- The text is accepted, there are more slots than the degree of its graph, a plan with this verdict answers it, the report and the
 -- code of that plan are printed, and its table is written: the graph's number of vertices, the slots, the bound and no rows.
 pub record IsPlanned (slots budget : ℕ) (text : List ℕ) (optimal : Bool) (printed : List ℕ) (table : Option (List ℕ)) : Type 0 where
   pub kernel : KernelParts
   pub graph : GraphParts
-  pub simple : IsSimple text kernel graph
+  pub accepted : IsAccepted text kernel graph
   pub valid : IsGraph graph
   pub room : degree (dag_of graph) < slots
   pub plan : Plan

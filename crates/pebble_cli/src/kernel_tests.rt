@@ -1,9 +1,9 @@
 //! The kernels of the folder `kernels/`: each has the graph, the cost and the bound that docs/KERNELS.md gives, and the code of its
 //! plain plan, when it is run, the outputs and as many transfers as the cost. The expected values were worked out outside of the
 //! program.
+use crate::kernel::accepted_graph;
 use crate::plan::code::plain_code;
 use crate::plan::cost::{first_bound, plain_cost};
-use crate::simple::text::simple_graph;
 use comp_graph::Game;
 use scratch_machine::{Code, exec};
 use std::alloc::Global;
@@ -320,7 +320,7 @@ fn kernels_and_their_code(rt: HostRuntime) -> Result<(), Fail> {
 
 // The game on the kernel's graph with one slot more than its degree.
 fn game_of(rt: &impl Abort, alloc: Global, kernel: &Kernel) -> Result<Game, Fail> {
-    let graph = simple_graph(alloc, kernel.text.as_bytes())?.ok_or("not simple")?;
+    let graph = accepted_graph(alloc, kernel.text.as_bytes())?;
     assert_eq!(rt; graph.len(), kernel.vertices);
     assert_eq!(rt; graph.inputs(), kernel.inputs);
     let degree = graph.degree();

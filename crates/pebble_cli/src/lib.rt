@@ -3,10 +3,11 @@
 
 mod answer;
 mod deliver;
+mod kernel;
 #[cfg(test)]
 mod kernel_tests;
+mod laws;
 mod plan;
-mod simple;
 mod status;
 mod table;
 mod texts;

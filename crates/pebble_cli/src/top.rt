@@ -1,5 +1,5 @@
 //! The top call.
-ghost use Rattle.std.specs.Prelude.{◌≡◌, ◌≢◌, ◌+◌, ◌≤◌, ◌<◌, ◌⊎◌, ℕ, List, map, string_bytes, IfOk, IfErr, Some, None};
+ghost use Rattle.std.specs.Prelude.{◌≡◌, ◌≢◌, ◌+◌, ◌≤◌, ◌<◌, ◌⊎◌, ℕ, List, length, map, string_bytes, IfOk, IfErr, Some, None};
 ghost use Rattle.std.specs.declared.option.Option.{Option};
 ghost use Rattle.std.specs.Io.KnownBytes.{append_known};
 ghost use Rattle.comp_graph.specs.Dags.{degree};
@@ -7,14 +7,14 @@ ghost use Rattle.comp_graph.specs.Graphs.{GraphParts, dag_of};
 ghost use Rattle.desk_io.specs.declared.desk.Kind.{Kind};
 ghost use Rattle.desk_io.specs.Counts.{Rose};
 ghost use Rattle.desk_io.specs.Known.{Tells, file_items, file_of, input_end};
+ghost use Rattle.kernel_ast.specs.KernelParts.{KernelParts};
 ghost use Rattle.pebble_cli.specs.declared.status.Status.{Status};
 ghost use Rattle.pebble_cli.specs.declared.words.Command.TheVariants.{Plan};
-ghost use Rattle.pebble_cli.specs.Answers.{Answers, Plans, IsOfRead, ReadCause, SameWriteFaults, IsNotSimple, IsYielded, not_simple_text, too_small_text};
+ghost use Rattle.pebble_cli.specs.Accepted.{IsAccepted, IsKernelFault};
+ghost use Rattle.pebble_cli.specs.Answers.{Answers, Plans, IsOfRead, ReadCause, SameWriteFaults, IsYielded, kernel_fault_text, too_small_text};
 ghost use Rattle.pebble_cli.specs.Deliver.{Delivered, CutShort};
 ghost use Rattle.pebble_cli.specs.PlanAnswers.{first_cost, game_parts};
 ghost use Rattle.pebble_cli.specs.PlanCode.{bound_of};
-ghost use Rattle.pebble_cli.specs.SimpleGraphs.{IsSimple};
-ghost use Rattle.pebble_cli.specs.SimpleKernels.{KernelParts};
 ghost use Rattle.pebble_cli.specs.Words.{command, file_word, IsInLimits};
 
 use crate::answer::{Answer, make};
@@ -23,10 +23,11 @@ use crate::status::Status;
 use crate::words::{Command, read};
 use comp_graph::NoMemory;
 use desk_io::{Desk, ReadEnd, WriteFault, read_input};
+use kernel_parser::MAX_LENGTH;
 use std::alloc::Global;
 
-/// The most bytes of a kernel.
-const KERNEL_LIMIT: u32 = 65536;
+/// The most bytes of a kernel's text.
+const KERNEL_LIMIT: u32 = MAX_LENGTH as u32;
 
 // The answer of a command to its kernel.
 fn command_answer(alloc: Global, command: Command, text: &[u8]) -> Result<Answer, NoMemory>
@@ -40,11 +41,11 @@ fn command_answer(alloc: Global, command: Command, text: &[u8]) -> Result<Answer
 
 // The answer of a command to a kernel of too many bytes.
 fn too_long_answer(alloc: Global, command: Command) -> Result<Answer, NoMemory>
-    ensures answers { IfOk result (λ answer. (text : List ℕ) → IsNotSimple text → Answers (Some command) text answer.status answer.text.items (file_items answer.table)) }
+    ensures answers { IfOk result (λ answer. (text : List ℕ) → 65536 < length text → Answers (Some command) text answer.status answer.text.items (file_items answer.table)) }
     ensures status { IfOk result (λ answer. answer.status ≡ Status.Kernel) }
 {
     match command {
-        Command::Plan { .. } => Ok(make::not_simple(alloc)?),
+        Command::Plan { .. } => Ok(make::kernel_fault(alloc, 15, KERNEL_LIMIT)?),
     }
 }
 
@@ -126,32 +127,32 @@ pub fn pebble<D: Desk>(alloc: Global, words: &[String], desk: &mut D) -> Status
     // Optimal comes exactly where the plain plan costs as much as the bound, Open exactly where it costs more. `headline` says when
     // they came; this is when they must.
     ensures optimal { (slots budget : ℕ) (text : List ℕ) (kernel : KernelParts) (graph : GraphParts) → command (map string_bytes words.now) ≡ Some (Plan slots budget)
-        → D.input desk.old ≡ Some text → IsSimple text kernel graph → degree (dag_of graph) < slots
+        → D.input desk.old ≡ Some text → IsAccepted text kernel graph → degree (dag_of graph) < slots
         → bound_of (game_parts graph slots) ≡ first_cost graph slots → IsYielded result Status.Optimal }
     ensures opened { (slots budget : ℕ) (text : List ℕ) (kernel : KernelParts) (graph : GraphParts) → command (map string_bytes words.now) ≡ Some (Plan slots budget)
-        → D.input desk.old ≡ Some text → IsSimple text kernel graph → degree (dag_of graph) < slots
+        → D.input desk.old ≡ Some text → IsAccepted text kernel graph → degree (dag_of graph) < slots
         → bound_of (game_parts graph slots) < first_cost graph slots → IsYielded result Status.Open }
 
     // Usage comes exactly where the words spell no command.
     ensures usage_only { result ≡ Status.Usage → command (map string_bytes words.now) ≡ None }
     ensures usage { command (map string_bytes words.now) ≡ None → (result ≡ Status.Usage) ⊎ ((result ≡ Status.WriteFault) ⊎ (result ≡ Status.NoMemory)) }
 
-    // Kernel comes exactly where the input is not simple.
-    ensures kernel_only { result ≡ Status.Kernel → (text : List ℕ) × Tells (D.input desk.old) text × IsNotSimple text
-        × (D.output desk.new ≡ append_known (D.output desk.old) not_simple_text) }
-    ensures kernel { (slots budget : ℕ) (text : List ℕ) → command (map string_bytes words.now) ≡ Some (Plan slots budget) → D.input desk.old ≡ Some text
-        → IsNotSimple text → IsYielded result Status.Kernel }
+    // Kernel comes exactly where the input has a fault, which is printed.
+    ensures kernel_only { result ≡ Status.Kernel → (text : List ℕ) × (code : ℕ) × (at : ℕ) × Tells (D.input desk.old) text × IsKernelFault text code at
+        × (D.output desk.new ≡ append_known (D.output desk.old) (kernel_fault_text code at)) }
+    ensures kernel { (slots budget : ℕ) (text : List ℕ) (code at : ℕ) → command (map string_bytes words.now) ≡ Some (Plan slots budget)
+        → D.input desk.old ≡ Some text → IsKernelFault text code at → IsYielded result Status.Kernel }
 
     // TooSmall comes exactly where there are no more slots than the degree.
     ensures too_small_only { result ≡ Status.TooSmall → (slots : ℕ) × (budget : ℕ) × (text : List ℕ) × (kernel : KernelParts) × (graph : GraphParts)
-        × (command (map string_bytes words.now) ≡ Some (Plan slots budget)) × Tells (D.input desk.old) text × IsSimple text kernel graph × (slots ≤ degree (dag_of graph))
+        × (command (map string_bytes words.now) ≡ Some (Plan slots budget)) × Tells (D.input desk.old) text × IsAccepted text kernel graph × (slots ≤ degree (dag_of graph))
         × (D.output desk.new ≡ append_known (D.output desk.old) (too_small_text (degree (dag_of graph) + 1))) }
     ensures too_small { (slots budget : ℕ) (text : List ℕ) (kernel : KernelParts) (graph : GraphParts) → command (map string_bytes words.now) ≡ Some (Plan slots budget)
-        → D.input desk.old ≡ Some text → IsSimple text kernel graph → slots ≤ degree (dag_of graph) → IsYielded result Status.TooSmall }
+        → D.input desk.old ≡ Some text → IsAccepted text kernel graph → slots ≤ degree (dag_of graph) → IsYielded result Status.TooSmall }
 
-    // Words that spell `plan`, a simple kernel, enough slots and no fault of the desk give a plan, or want of memory.
+    // Words that spell `plan`, an accepted kernel, enough slots and no fault of the desk give a plan, or want of memory.
     ensures complete { (slots budget : ℕ) (text : List ℕ) (kernel : KernelParts) (graph : GraphParts) → command (map string_bytes words.now) ≡ Some (Plan slots budget)
-        → D.input desk.old ≡ Some text → IsSimple text kernel graph → degree (dag_of graph) < slots
+        → D.input desk.old ≡ Some text → IsAccepted text kernel graph → degree (dag_of graph) < slots
         → ((kind : Kind) → Rose (D.faults desk.old kind) (D.faults desk.new kind) → ⊥)
         → (result ≡ Status.Optimal) ⊎ ((result ≡ Status.Open) ⊎ (result ≡ Status.NoMemory)) }
 

@@ -1,6 +1,6 @@
 //! Resolves expressions.
 ghost use Rattle.std.specs.Prelude.{◌≡◌, [], map, OnOk, IfOk, IfErr};
-ghost use Rattle.kernel_parser.specs.NameFaults.{joined};
+ghost use Rattle.kernel_ast.specs.Walk.{joined};
 ghost use Rattle.kernel_parser.specs.Names as spec;
 ghost use Rattle.kernel_parser.specs.Resolved as tree;
 ghost use Rattle.kernel_parser.specs.Scopes.{known, EndsAt};

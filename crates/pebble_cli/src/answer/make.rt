@@ -2,18 +2,18 @@
 ghost use Rattle.std.specs.Prelude.{◌≡◌, ◌++◌, ◌≤◌, ◌<◌, ◌⊎◌, ℕ, List, IfOk, Some, None};
 ghost use Rattle.comp_graph.specs.Games.{IsGame};
 ghost use Rattle.desk_io.specs.Known.{file_items};
-ghost use Rattle.pebble_cli.specs.SimpleKernels.{KernelParts};
-ghost use Rattle.pebble_cli.specs.SimpleGraphs.{IsSimple};
-ghost use Rattle.pebble_cli.specs.Answers.{IsUsage, IsFaulty, IsNotSimple, Plans, Refuses, too_small_text, verdict_status};
+ghost use Rattle.kernel_ast.specs.KernelParts.{KernelParts};
+ghost use Rattle.pebble_cli.specs.Accepted.{IsAccepted, IsKernelFault};
+ghost use Rattle.pebble_cli.specs.Answers.{IsUsage, Plans, Refuses, too_small_text, verdict_status};
 ghost use Rattle.pebble_cli.specs.PlanAnswers.{facts_of, plain_plan};
 ghost use Rattle.pebble_cli.specs.PlanCode as spec;
 ghost use Rattle.pebble_cli.specs.ReportText.{report_text};
 ghost use Rattle.pebble_cli.specs.CodeText.{code_text};
 
 use super::Answer;
+use crate::kernel::{KernelEnd, accepted_graph};
 use crate::plan::code::plain_code;
 use crate::plan::cost::{first_bound, plain_cost};
-use crate::simple::text::simple_graph;
 use crate::status::Status;
 use crate::table::empty_table;
 use crate::texts::code::write_code;
@@ -36,14 +36,16 @@ pub fn usage(alloc: Global) -> Result<Answer, AllocError>
     })
 }
 
-/// The answer to a text that is not simple.
-pub fn not_simple(alloc: Global) -> Result<Answer, AllocError>
+/// The answer to a text with this fault: its code, and its place in bytes from 0.
+pub fn kernel_fault(alloc: Global, code: u8, at: u32) -> Result<Answer, AllocError>
     ensures status { IfOk result (λ answer. answer.status ≡ Status.Kernel) }
-    ensures text { IfOk result (λ answer. (slots : ℕ) (text : List ℕ) → IsNotSimple text → Refuses slots text answer.status answer.text.items (file_items answer.table)) }
+    ensures text { IfOk result (λ answer. (slots : ℕ) (text : List ℕ) → IsKernelFault text code at
+        → Refuses slots text answer.status answer.text.items (file_items answer.table)) }
 {
+    let line = format!(in alloc; "kernel fault K{code} at {at}\n")?;
     Ok(Answer {
         status: Status::Kernel,
-        text: Vec::from_slice(alloc, b"kernel fault K0 at 0\n")?,
+        text: line.into_bytes(),
         table: None,
     })
 }
@@ -109,7 +111,7 @@ fn plan_text(alloc: Global, game: &Game, facts: &Facts) -> Result<Vec<u8>, NoMem
 /// The answer to a kernel with enough slots: the verdict, the report and the code, and the table.
 fn planned(alloc: Global, game: &Game, budget: u32) -> Result<Answer, NoMemory>
     requires { budget ≡ 0 }
-    ensures { IfOk result (λ answer. (text : List ℕ) (kernel : KernelParts) → IsSimple text kernel game.now.graph
+    ensures { IfOk result (λ answer. (text : List ℕ) (kernel : KernelParts) → IsAccepted text kernel game.now.graph
         → Plans game.now.slots budget text answer.status answer.text.items (file_items answer.table)) }
 {
     let facts = facts_of_plan(game, budget);
@@ -127,7 +129,7 @@ fn graph_answer(alloc: Global, slots: u16, budget: u32, graph: Graph) -> Result<
     requires some { 0 < slots }
     requires few { slots ≤ 64 }
     requires no_budget { budget ≡ 0 }
-    ensures { IfOk result (λ answer. (text : List ℕ) (kernel : KernelParts) → IsSimple text kernel graph
+    ensures { IfOk result (λ answer. (text : List ℕ) (kernel : KernelParts) → IsAccepted text kernel graph
         → Refuses slots text answer.status answer.text.items (file_items answer.table)
         ⊎ Plans slots budget text answer.status answer.text.items (file_items answer.table)) }
 {
@@ -137,7 +139,7 @@ fn graph_answer(alloc: Global, slots: u16, budget: u32, graph: Graph) -> Result<
     }
 }
 
-/// The answer of `plan` to a text: that it is not simple, that more slots are needed, or a plan.
+/// The answer of `plan` to a text: that it has a fault, that more slots are needed, or a plan.
 pub fn plan_answer(alloc: Global, slots: u16, budget: u32, text: &[u8]) -> Result<Answer, NoMemory>
     requires some { 0 < slots }
     requires few { slots ≤ 64 }
@@ -145,8 +147,9 @@ pub fn plan_answer(alloc: Global, slots: u16, budget: u32, text: &[u8]) -> Resul
     ensures { IfOk result (λ answer. Refuses slots text.now answer.status answer.text.items (file_items answer.table)
         ⊎ Plans slots budget text.now answer.status answer.text.items (file_items answer.table)) }
 {
-    match simple_graph(alloc, text)? {
-        Some(graph) => Ok(graph_answer(alloc, slots, budget, graph)?),
-        None => Ok(not_simple(alloc)?),
+    match accepted_graph(alloc, text) {
+        Ok(graph) => Ok(graph_answer(alloc, slots, budget, graph)?),
+        Err(KernelEnd::Fault { code, at }) => Ok(kernel_fault(alloc, code, at)?),
+        Err(KernelEnd::NoMemory) => Err(NoMemory),
     }
 }

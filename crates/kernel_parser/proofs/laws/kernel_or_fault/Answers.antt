@@ -5,6 +5,9 @@ use Rattle.kernel_parser.proofs.laws.kernel_or_fault.Goals as goal
 pub returns-clause-one_kernel : goal.returns-clause-one_kernel
 returns-clause-one_kernel c = laws.one_kernel
 
+pub returns-clause-well_formed : goal.returns-clause-well_formed
+returns-clause-well_formed c = laws.kernels_are_well_formed
+
 pub returns-clause-one_fault : goal.returns-clause-one_fault
 returns-clause-one_fault c = laws.one_text_fault
 

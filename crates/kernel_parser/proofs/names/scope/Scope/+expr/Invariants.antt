@@ -1,5 +1,5 @@
 use Rattle.std.proofs.Common.{◌≡◌, ◌++◌, map, drop}
-use Rattle.kernel_parser.specs.NameFaults.{joined}
+use Rattle.kernel_ast.specs.Walk.{joined}
 use Rattle.kernel_parser.specs.Names as spec
 use Rattle.kernel_parser.specs.Resolved as tree
 use Rattle.kernel_parser.specs.Scopes.{known}

@@ -1,0 +1,56 @@
+-- Which texts the program accepts, and which fault it prints of another (this project's convention). The faults of a text are those of
+-- its reading; for now a kernel that is not plain is fault 0 at 0.
+use Rattle.std.specs.Prelude.{◌≡◌, ◌⊎◌, ℕ, List}
+use Rattle.comp_graph.specs.Graphs.{GraphParts}
+use Rattle.kernel_ast.specs.KernelParts.{KernelParts}
+use Rattle.kernel_parser.specs.declared.parse_end.ParseEnd.{ParseEnd}
+use Rattle.kernel_parser.specs.declared.parse_end.ParseEnd.TheVariants as parsing
+use Rattle.kernel_parser.specs.KernelTexts.{Reads, IsFaultOfText}
+use Rattle.plain_kernels.specs.PlainKernels.{IsPlain}
+use Rattle.pebble_cli.specs.declared.kernel.KernelEnd.{KernelEnd}
+use Rattle.pebble_cli.specs.declared.kernel.KernelEnd.TheVariants.{Fault, NoMemory}
+
+-- The text is accepted: it stands for this kernel, and the kernel is plain and has this graph.
+pub record IsAccepted (text : List ℕ) (kernel : KernelParts) (graph : GraphParts) : Type 0 where
+  pub reads : Reads text kernel
+  pub plain : IsPlain kernel graph
+
+-- The text has no fault of its own, and its kernel is not plain, which is fault 0 at 0.
+pub record IsNotPlain (text : List ℕ) (code at : ℕ) : Type 0 where
+  pub kernel : KernelParts
+  pub reads : Reads text kernel
+  pub not_plain : (graph : GraphParts) → IsPlain kernel graph → ⊥
+  pub code_is : code ≡ 0
+  pub at_is : at ≡ 0
+
+-- the fault of a text that is not accepted: its own first fault, or that its kernel is not plain
+abbrev pub IsKernelFault : List ℕ → ℕ → ℕ → Type 0
+IsKernelFault text code at = IsFaultOfText text code at ⊎ IsNotPlain text code at
+
+-- without a graph the text has a fault with this code and place; want of memory means nothing
+abbrev pub EndMeans : List ℕ → KernelEnd → Type 0
+EndMeans text (Fault code at) = IsKernelFault text code at
+EndMeans text NoMemory = Unit {0}
+
+-- the end without a kernel
+abbrev pub kernel_end : ParseEnd → KernelEnd
+kernel_end (parsing.Fault code at) = Fault code at
+kernel_end parsing.NoMemory = NoMemory
+
+-- ---- laws
+
+-- a text is accepted in one way at most, with one kernel and one graph
+abbrev pub AcceptedOnce : Type 0
+AcceptedOnce = (text : List ℕ) (k j : KernelParts) (g h : GraphParts) → IsAccepted text k g → IsAccepted text j h → (k ≡ j) × (g ≡ h)
+
+-- a text has at most one fault
+abbrev pub OneKernelFault : Type 0
+OneKernelFault = (text : List ℕ) (c d at place : ℕ) → IsKernelFault text c at → IsKernelFault text d place → (c ≡ d) × (at ≡ place)
+
+-- a text that is accepted has no fault
+abbrev pub NoFaultOfAccepted : Type 0
+NoFaultOfAccepted = (text : List ℕ) (kernel : KernelParts) (graph : GraphParts) (code at : ℕ) → IsAccepted text kernel graph → IsKernelFault text code at → ⊥
+
+-- each text is accepted or has a fault
+abbrev pub AcceptedOrFault : Type 0
+AcceptedOrFault = (text : List ℕ) → ((kernel : KernelParts) × (graph : GraphParts) × IsAccepted text kernel graph) ⊎ ((code : ℕ) × (at : ℕ) × IsKernelFault text code at)
