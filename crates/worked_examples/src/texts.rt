@@ -63,7 +63,11 @@ fn check_fault(
     at: usize,
 ) -> Result<(), Fail> {
     let line = format!(in alloc; "kernel fault K{code} at {at}\n")?;
-    assert_eq!(rt; left.output.as_slice(), line.as_bytes(), "K{code} at {at}");
+    assert_eq!(rt;
+        str::from_utf8(left.output.as_slice())?,
+        line.as_str(),
+        "K{code} at {at}"
+    );
     assert_eq!(rt; left.status, Status::Kernel, "K{code} at {at}");
     let file = left.file.ok_or("no file")?;
     assert_eq!(rt; file.as_slice(), b"old".as_slice());
@@ -151,7 +155,7 @@ fn parts_in_one_another(rt: HostRuntime) -> Result<(), Fail> {
     for nest in levels::NESTS {
         let fits = nest.text(rt.alloc(), nest.fits)?;
         check(&rt, rt.alloc(), fits.as_bytes(), nest.answer)?;
-        let deeper = nest.text(rt.alloc(), nest.fits + 1)?;
+        let deeper = nest.text(rt.alloc(), nest.fits.saturating_add(1))?;
         check(
             &rt,
             rt.alloc(),
