@@ -1,7 +1,8 @@
 #!/bin/sh
 # Plans each kernel of kernels/ with the least number of slots that it needs, and checks the report, the code, the table and the exit
-# status against tools/run_code.py, and docs/KERNELS.md against the kernels. The exit status is 0 where all agrees, or where there is
-# no python3 to check with. PEBBLE names another program than the one at the top of the repository.
+# status against tools/run_code.py, and docs/KERNELS.md against the kernels. Of a kernel that is not planned yet, since it has arrays,
+# loops or longer right sides, it checks that the program says so and writes no table. The exit status is 0 where all agrees, or where
+# there is no python3 to check with. PEBBLE names another program than the one at the top of the repository.
 here=$(CDPATH= cd -- "$(dirname -- "$0")/.." && pwd) || exit 1
 pebble=${PEBBLE:-$here/pebble}
 run_code=$here/tools/run_code.py

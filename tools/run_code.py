@@ -1,33 +1,47 @@
 #!/usr/bin/env python3
-"""An evaluator of simple kernels and of scratch code that shares no line with the planner.
+"""An evaluator of kernels and of scratch code that shares no line with the planner.
 
   run_code.py check KERNEL OUTPUT TABLE SLOTS STATUS
       checks what `pebble plan SLOTS TABLE 0` made of a kernel: its output, its table file and its exit status
   run_code.py slots KERNEL
       prints the least number of slots that the kernel needs
   run_code.py facts KERNEL..
-      prints each kernel's row of the first table of docs/KERNELS.md
+      prints each kernel's row of the first or the second table of docs/KERNELS.md
   run_code.py document DOCUMENT KERNEL..
       checks that the document has each kernel's row, and that its rows of outputs are right
 
 KERNEL, OUTPUT, TABLE and DOCUMENT are files. Python 3 alone is needed. The exit status is 0 where all agrees, 1 where something
 does not (one line says what), and 2 for other words.
+
+The kernels may use the whole language. Those that the program does not plan yet, since they have arrays, loops or longer right sides,
+are evaluated too, and of them `check` asks that the program answers fault 0 at 0 and writes no table. The evaluator is for kernels
+without a fault: it stops at some of the faults of a text, and tells none by its code.
 """
+import os
 import re
 import struct
 import sys
 from collections import namedtuple
 
-Kernel = namedtuple('Kernel', 'name declarations statements')   # [(kind, name)], [(target, first, sign, second)]
+Kernel = namedtuple('Kernel', 'name declarations body')
+Declaration = namedtuple('Declaration', 'kind name sizes')
+Assign = namedtuple('Assign', 'target value')
+Loop = namedtuple('Loop', 'name first end body')
+Place = namedtuple('Place', 'name indices')
+Call = namedtuple('Call', 'word operands')                      # an operator is a call of its operation; a number is an int
+Trace = namedtuple('Trace', 'preds inputs outputs results')     # a graph, and the numbers of the outputs
 Facts = namedtuple('Facts', 'vertices inputs degree cost bound')
 Code = namedtuple('Code', 'slots words inputs outputs instructions')
 
 RESERVED = set('kernel in out tmp for min max sel mad if else by'.split())
-OPERATIONS = {
-    '+': lambda a, b: a + b, '-': lambda a, b: a - b, '*': lambda a, b: a * b,
-    '&': lambda a, b: a & b, '|': lambda a, b: a | b, '^': lambda a, b: a ^ b,
+OPERATIONS = {                                                  # how many operands, and the result before it is wrapped
+    'neg': (1, lambda a: -a),
+    'add': (2, lambda a, b: a + b), 'sub': (2, lambda a, b: a - b), 'mul': (2, lambda a, b: a * b),
+    'and': (2, lambda a, b: a & b), 'or': (2, lambda a, b: a | b), 'xor': (2, lambda a, b: a ^ b),
+    'min': (2, min), 'max': (2, max),
+    'sel': (3, lambda c, a, b: a if c != 0 else b), 'mad': (3, lambda a, b, c: a * b + c),
 }
-SIGN_OF_WORD = {'add': '+', 'sub': '-', 'mul': '*', 'and': '&', 'or': '|', 'xor': '^'}
+WORD_OF_SIGN = {'+': 'add', '-': 'sub', '*': 'mul', '&': 'and', '|': 'or', '^': 'xor'}
 LEAST, GREATEST = -2 ** 63, 2 ** 63 - 1
 
 
@@ -45,136 +59,289 @@ def wrapped(number):
     return (number + 2 ** 63) % 2 ** 64 - 2 ** 63
 
 
-# ---- kernels
+def result_of(word, numbers):
+    return wrapped(OPERATIONS[word][1](*numbers))
 
-def tokens_of(text):
-    demand(len(text) <= 65536, 'the kernel has more than 65536 bytes')
-    tokens, at = [], 0
-    pattern = re.compile(rb'[ \t\r\n]*(?:([A-Za-z_][A-Za-z0-9_]*)|([0-9]+)|([{};=+\-*&|^])|\Z)')
+
+# ---- texts of kernels
+
+SPACE = re.compile(r'(?:[ \t\r\n]|//[^\n]*)*')
+NUMBER = re.compile(r'[0-9]+')
+SIGN = re.compile(r'\.\.|[{}\[\]();,=+\-*&|^]')
+
+
+def name_end(text, at):
+    """Where the name that begins at this place ends; the place itself if none begins."""
+    if not text[at].isidentifier():
+        return at
+    while at < len(text) and ('a' + text[at]).isidentifier():
+        at += 1
+    return at
+
+
+def tokens_of(data):
+    demand(len(data) <= 65536, 'the kernel has more than 65536 bytes')
+    text = data.decode('utf-8')
+    tokens, at = [], SPACE.match(text).end()
     while at < len(text):
-        found = pattern.match(text, at)
-        demand(found, f'no token begins at byte {at} of the kernel')
-        word, number, sign = found.groups()
-        if word:
-            demand(len(word) <= 64, 'a name has more than 64 bytes')
-            tokens.append(word.decode())
-        elif number:
-            demand(int(number) <= GREATEST, 'a number is too great')
-            tokens.append(int(number))
+        end, number, sign = name_end(text, at), NUMBER.match(text, at), SIGN.match(text, at)
+        demand(end > at or number or sign, f'no token begins at character {at} of the kernel')
+        if number:
+            end = number.end()
+            demand(int(number.group()) <= GREATEST, 'a number is too great')
         elif sign:
-            tokens.append(sign.decode())
-        at = found.end()
+            end = sign.end()
+        tokens.append(int(text[at:end]) if number else text[at:end])
+        demand(number or len(tokens[-1].encode()) <= 64, 'a name has more than 64 bytes')
+        at = SPACE.match(text, end).end()
     return tokens
 
 
+def is_name(token):
+    return isinstance(token, str) and token.isidentifier() and token not in RESERVED
+
+
 class Reader:
-    """Goes through the tokens of a kernel."""
+    """Goes through the tokens of a kernel, and reads one part after the other by the grammar of docs/LANGUAGE.md."""
 
     def __init__(self, tokens):
         self.tokens = list(reversed(tokens))
+
+    def sees(self, *signs):
+        return bool(self.tokens) and self.tokens[-1] in signs
 
     def next(self, test, wanted):
         token = self.tokens.pop() if self.tokens else None
         demand(test(token), f'{wanted} is wanted where {token!r} stands')
         return token
 
+    def any(self):
+        return self.next(lambda token: token is not None, 'a token')
+
     def sign(self, sign):
         return self.next(lambda token: token == sign, sign)
 
     def name(self):
-        return self.next(lambda token: is_name(token), 'a name')
+        return self.next(is_name, 'a name')
 
-    def operand(self):
-        return self.next(lambda token: is_name(token) or isinstance(token, int), 'a name or a number')
+    def number(self):
+        return self.next(lambda token: isinstance(token, int), 'a number')
 
-    def sees(self, signs):
-        return bool(self.tokens) and self.tokens[-1] in signs
+    def chain(self, levels, atom):
+        """Operators of these levels, of which the first binds least; each chain is read from the left."""
+        if not levels:
+            return self.unary(atom)
+        left = self.chain(levels[1:], atom)
+        while self.sees(*levels[0]):
+            left = Call(WORD_OF_SIGN[self.any()], [left, self.chain(levels[1:], atom)])
+        return left
 
+    def unary(self, atom):
+        if not self.sees('-'):
+            return atom()
+        self.sign('-')
+        return Call('neg', [self.unary(atom)])
 
-def is_name(token):
-    return isinstance(token, str) and bool(re.match(r'[A-Za-z_]', token)) and token not in RESERVED
+    def index(self):
+        return self.chain(['+-', '*'], self.index_atom)
 
+    def index_atom(self):
+        if self.sees('('):
+            return self.group(self.index)
+        token = self.next(lambda token: is_name(token) or isinstance(token, int), 'a name or a number')
+        return token if isinstance(token, int) else Place(token, [])
 
-def read_statement(reader):
-    target = reader.name()
-    reader.sign('=')
-    first, sign, second = reader.operand(), None, None
-    if reader.sees(OPERATIONS):
-        sign = reader.next(lambda token: True, 'a sign')
-        second = reader.operand()
-    reader.sign(';')
-    return target, first, sign, second
+    def expression(self):
+        return self.chain(['|', '^', '&', '+-', '*'], self.atom)
+
+    def atom(self):
+        if self.sees('('):
+            return self.group(self.expression)
+        if self.sees('min', 'max', 'sel', 'mad'):
+            return self.call()
+        return self.number() if self.tokens and isinstance(self.tokens[-1], int) else self.place()
+
+    def group(self, part):
+        self.sign('(')
+        inside = part()
+        self.sign(')')
+        return inside
+
+    def call(self):
+        word = self.any()
+        self.sign('(')
+        operands = [self.expression()]
+        for _ in range(OPERATIONS[word][0] - 1):
+            self.sign(',')
+            operands.append(self.expression())
+        self.sign(')')
+        return Call(word, operands)
+
+    def brackets(self, part):
+        found = []
+        while self.sees('[') and len(found) < 2:
+            self.sign('[')
+            found.append(part())
+            self.sign(']')
+        return found
+
+    def place(self):
+        return Place(self.name(), self.brackets(self.index))
+
+    def declaration(self):
+        declaration = Declaration(self.any(), self.name(), self.brackets(self.number))
+        self.sign(';')
+        demand(all(1 <= size <= 64 for size in declaration.sizes), f'{declaration.name} has a size out of range')
+        return declaration
+
+    def statement(self):
+        if self.sees('for'):
+            return self.loop()
+        target = self.place()
+        self.sign('=')
+        value = self.expression()
+        self.sign(';')
+        return Assign(target, value)
+
+    def loop(self):
+        self.sign('for')
+        name = self.name()
+        self.sign('in')
+        first = self.index()
+        self.sign('..')
+        end = self.index()
+        self.sign('{')
+        return Loop(name, first, end, self.body())
+
+    def body(self):
+        body = []
+        while not self.sees('}'):
+            body.append(self.statement())
+        self.sign('}')
+        return body
+
+    def kernel(self):
+        self.sign('kernel')
+        name, declarations = self.name(), []
+        self.sign('{')
+        while self.sees('in', 'out', 'tmp'):
+            declarations.append(self.declaration())
+        kernel = Kernel(name, declarations, self.body())
+        demand(not self.tokens, 'tokens stand behind the kernel')
+        return kernel
 
 
 def read_kernel(path):
     with open(path, 'rb') as file:
-        reader = Reader(tokens_of(file.read()))
-    reader.sign('kernel')
-    kernel = Kernel(reader.name(), [], [])
-    reader.sign('{')
-    while reader.sees(('in', 'out', 'tmp')):
-        kernel.declarations.append((reader.next(lambda token: True, 'a word'), reader.name()))
-        reader.sign(';')
-    while not reader.sees('}'):
-        kernel.statements.append(read_statement(reader))
-    reader.sign('}')
-    demand(not reader.tokens, 'tokens stand behind the kernel')
-    names = [name for _, name in kernel.declarations]
+        kernel = Reader(tokens_of(file.read())).kernel()
+    names = [declaration.name for declaration in kernel.declarations]
     demand(len(set(names)) == len(names), 'a name is declared twice')
-    for target, first, _, second in kernel.statements:
-        used = [target] + [arg for arg in (first, second) if isinstance(arg, str)]
-        demand(all(name in names for name in used), 'a name is not declared')
-        demand(('in', target) not in kernel.declarations, 'an input is assigned')
     return kernel
 
 
-def names_of(kernel, kind):
-    return [name for own, name in kernel.declarations if own == kind]
+def is_plain(kernel):
+    """Whether the program plans the kernel: no array, no loop, and at most one operation on a right side, by a sign between operands."""
+    def is_operand(value):
+        return isinstance(value, (int, Place))
+
+    def is_right_side(value):
+        return is_operand(value) or value.word in WORD_OF_SIGN.values() and all(map(is_operand, value.operands))
+
+    return (not any(declaration.sizes for declaration in kernel.declarations)
+            and all(isinstance(statement, Assign) and is_right_side(statement.value) for statement in kernel.body))
 
 
-def evaluate(kernel, values):
-    """The outputs by direct evaluation of the statements, in order of declaration."""
-    held = dict(zip(names_of(kernel, 'in'), values))
+# ---- runs of kernels
 
-    def read(operand):
-        demand(isinstance(operand, int) or operand in held, f'{operand} is read before it is assigned')
-        return operand if isinstance(operand, int) else held[operand]
+def elements_of(kernel, kind):
+    """The labels of the elements of a kind, in order of declaration and row by row."""
+    labels = []
+    for declaration in kernel.declarations:
+        if declaration.kind == kind:
+            indices = ['']
+            for size in declaration.sizes:
+                indices = [before + f'[{k}]' for before in indices for k in range(size)]
+            labels += [declaration.name + index for index in indices]
+    return labels
 
-    for target, first, sign, second in kernel.statements:
-        held[target] = wrapped(OPERATIONS[sign](read(first), read(second))) if sign else read(first)
-    return [read(name) for name in names_of(kernel, 'out')]
 
+class Run:
+    """Executes a kernel on the values of its inputs. An element holds a number and its origin, a vertex or None for a constant."""
 
-# ---- graphs
+    def __init__(self, kernel, values):
+        self.kinds = {declaration.name: declaration for declaration in kernel.declarations}
+        labels = elements_of(kernel, 'in')
+        self.preds = [set() for _ in labels]
+        self.held = {label: (value, vertex) for vertex, (label, value) in enumerate(zip(labels, values))}
+        self.open = {}
+        self.execute(kernel.body)
 
-def graph_of(kernel):
-    """The predecessors of each vertex, how many inputs there are, and the vertex of each output."""
-    preds = [set() for _ in names_of(kernel, 'in')]
-    origin = {name: ('vertex', v) for v, name in enumerate(names_of(kernel, 'in'))}
+    def execute(self, body):
+        for statement in body:
+            if isinstance(statement, Loop):
+                demand(statement.name not in self.open and statement.name not in self.kinds, f'{statement.name} is not new')
+                for turn in range(self.index(statement.first), self.index(statement.end)):
+                    self.open[statement.name] = turn
+                    self.execute(statement.body)
+                self.open.pop(statement.name, None)
+            else:
+                value = self.value(statement.value)
+                demand(statement.target.name in self.kinds, f'{statement.target.name} is not declared')
+                demand(self.kinds[statement.target.name].kind != 'in', 'an input is assigned')
+                self.held[self.label(statement.target)] = value
 
-    def read(operand):
-        return ('constant', operand) if isinstance(operand, int) else origin[operand]
-
-    def vertex(predecessors):
-        preds.append(set(predecessors))
-        return 'vertex', len(preds) - 1
-
-    for target, first, sign, second in kernel.statements:
-        args = [read(first)] + ([read(second)] if sign else [])
-        if not sign:
-            origin[target] = args[0]
-        elif all(kind == 'constant' for kind, _ in args):
-            origin[target] = 'constant', wrapped(OPERATIONS[sign](args[0][1], args[1][1]))
+    def index(self, index):
+        """The number of an index or a bound, which are made of numbers and open loops."""
+        if isinstance(index, int):
+            number = index
+        elif isinstance(index, Place):
+            demand(index.name in self.open, f'{index.name} is no open loop')
+            return self.open[index.name]
         else:
-            origin[target] = vertex(v for kind, v in args if kind == 'vertex')
-    outputs = [(origin[name] if origin[name][0] == 'vertex' else vertex([]))[1] for name in names_of(kernel, 'out')]
-    demand(len(preds) <= 256, 'there are more than 256 vertices')
-    return preds, len(names_of(kernel, 'in')), outputs
+            number = OPERATIONS[index.word][1](*map(self.index, index.operands))
+        demand(-1000000 <= number <= 1000000, f'{number} is too great for an index')
+        return number
+
+    def label(self, place):
+        demand(place.name in self.kinds, f'{place.name} is not declared')
+        sizes, numbers = self.kinds[place.name].sizes, [self.index(index) for index in place.indices]
+        demand(len(sizes) == len(numbers), f'{place.name} has another number of indices')
+        demand(all(0 <= number < size for number, size in zip(numbers, sizes)), f'an index of {place.name} is out of range')
+        return place.name + ''.join(f'[{number}]' for number in numbers)
+
+    def value(self, value):
+        if isinstance(value, int):
+            return value, None
+        if isinstance(value, Place):
+            if value.name in self.open and not value.indices:
+                return self.open[value.name], None
+            label = self.label(value)
+            demand(label in self.held, f'{label} is read before it is assigned')
+            return self.held[label]
+        operands = [self.value(operand) for operand in value.operands]
+        origins = {origin for _, origin in operands} - {None}
+        return result_of(value.word, [number for number, _ in operands]), self.vertex(origins) if origins else None
+
+    def vertex(self, preds):
+        self.preds.append(preds)
+        return len(self.preds) - 1
+
+
+def trace_of(kernel, values=None):
+    """The graph of a kernel, and the numbers of its outputs on these values; the graph is the same for all values."""
+    inputs = len(elements_of(kernel, 'in'))
+    run = Run(kernel, [0] * inputs if values is None else values)
+    labels = elements_of(kernel, 'out')
+    demand(all(label in run.held for label in labels), 'an output is not assigned')
+    held = [run.held[label] for label in labels]
+    outputs = [run.vertex(set()) if origin is None else origin for _, origin in held]
+    demand(len(run.preds) <= 256, 'there are more than 256 vertices')
+    return Trace(run.preds, inputs, outputs, [number for number, _ in held])
 
 
 def facts_of(kernel):
     """The numbers that the report has to print, by their definitions."""
-    preds, inputs, outputs = graph_of(kernel)
+    preds, inputs, outputs, _ = trace_of(kernel)
     live = set(outputs)
     for v in reversed(range(len(preds))):
         if v in live:
@@ -213,9 +380,9 @@ def read_instruction(parts, slots, words):
     if word in ('load', 'store'):
         demand(len(parts) == 3, f'{word} has one slot and one word')
         return word, slot, read_number(parts[2], words - 1)
-    demand(word == 'set' or word in SIGN_OF_WORD, f'{word} is no instruction of a simple kernel')
+    demand(word == 'set' or word in OPERATIONS, f'{word} is no instruction')
     operands = [read_operand(text, slots) for text in parts[2:]]
-    demand(len(operands) == (1 if word == 'set' else 2), f'{word} has another number of operands')
+    demand(len(operands) == (1 if word == 'set' else OPERATIONS[word][0]), f'{word} has another number of operands')
     demand(word != 'set' or operands[0][0] == 'constant', 'set has no constant')
     return word, slot, operands
 
@@ -261,7 +428,7 @@ def run(code, values):
         elif word == 'set':
             slots[slot] = read(rest[0])
         else:
-            slots[slot] = wrapped(OPERATIONS[SIGN_OF_WORD[word]](read(rest[0]), read(rest[1])))
+            slots[slot] = result_of(word, [read(operand) for operand in rest])
     demand(all(word in words for _, word in code.outputs), "an output's word is empty")
     return [words[word] for _, word in code.outputs], transfers
 
@@ -295,19 +462,25 @@ def check_report(lines, kernel, facts, slots, status):
 
 def check_code(code, kernel, facts, slots):
     demand(code.slots == slots, f'the code has {code.slots} slots')
-    demand(code.inputs == names_of(kernel, 'in'), 'the code has other inputs')
-    demand([label for label, _ in code.outputs] == names_of(kernel, 'out'), 'the code has other outputs')
+    demand(code.inputs == elements_of(kernel, 'in'), 'the code has other inputs')
+    demand([label for label, _ in code.outputs] == elements_of(kernel, 'out'), 'the code has other outputs')
     for vector in input_vectors(facts.inputs):
         outputs, transfers = run(code, vector)
-        demand(outputs == evaluate(kernel, vector), f'other outputs on {vector}')
+        demand(outputs == trace_of(kernel, vector).results, f'other outputs on {vector}')
         demand(transfers == facts.cost, f'{transfers} transfers where {facts.cost} are printed')
 
 
 def check(kernel_path, output_path, table_path, slots, status):
     kernel = read_kernel(kernel_path)
     facts = facts_of(kernel)
-    with open(output_path, encoding='ascii', newline='') as file:
+    with open(output_path, encoding='utf-8', newline='') as file:
         text = file.read()
+    if not is_plain(kernel):
+        demand(text == 'kernel fault K0 at 0\n', f'the output is "{text[:60]}" for a kernel that is not plain')
+        demand(int(status) == 3, f'the exit status is {status}')
+        demand(not os.path.exists(table_path), 'a table is written for a kernel that is not plain')
+        print(f'{kernel.name}: not planned yet: agrees')
+        return
     demand(text.endswith('\n'), 'the output does not end with a line feed')
     lines = text[:-1].split('\n')
     report = [line for line in lines if line.startswith(';')]
@@ -323,7 +496,9 @@ def check(kernel_path, output_path, table_path, slots, status):
 
 def row_of(kernel):
     facts = facts_of(kernel)
-    numbers = [facts.vertices, facts.inputs, facts.degree, facts.degree + 1, facts.cost, facts.bound, verdict_of(facts)]
+    numbers = [facts.vertices, facts.inputs, facts.degree, facts.degree + 1]
+    if is_plain(kernel):
+        numbers += [facts.cost, facts.bound, verdict_of(facts)]
     return f'| `{kernel.name}` | ' + ' | '.join(map(str, numbers)) + ' |'
 
 
@@ -339,7 +514,7 @@ def document(path, kernel_paths):
         demand(name in kernels, f'{path} names the unknown kernel {name}')
         values = list(map(int, inputs.split()))
         demand(len(values) == facts_of(kernels[name]).inputs, f'{path}: {name} has another number of inputs')
-        given = evaluate(kernels[name], values)
+        given = trace_of(kernels[name], values).results
         demand(given == list(map(int, outputs.split())), f'{path}: {name} on {inputs} gives {given}')
     print(f'{path}: {len(kernels)} kernels and {len(rows)} rows of outputs: agrees')
 

@@ -5,3 +5,5 @@
 mod program;
 #[cfg(test)]
 mod tests;
+#[cfg(test)]
+mod texts;

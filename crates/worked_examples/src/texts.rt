@@ -1,0 +1,197 @@
+//! Texts of kernels, and what `plan 2 t 0` answers to each: the first fault with its place, or a plan.
+//!
+//! A text with a fault is written in two pieces, and the fault is where the second begins. Its place is counted in bytes by hand, from
+//! the pieces that come again and again: `kernel a { ` has 11 bytes, `in x; ` 6, `out y; ` 7, `y = ` 4, `in A[2]; ` 9, `for i in ` 9, and
+//! `for i in 0..1 { ` 16. The tests compare this number with the length of the first piece, too.
+mod accepted;
+mod bytes;
+mod lengths;
+mod levels;
+mod names;
+mod phases;
+mod syntax;
+mod tokens;
+
+use crate::program::{Left, run, words_of};
+use accepted::Planned;
+use pebble_cli::Status;
+use phases::First;
+use std::alloc::{AllocError, Global};
+use std::process::Abort;
+use std::test::Fail;
+
+/// A text that is cut in two where its first fault is: the place of the fault in bytes, what stands before it, and the rest.
+#[derive(Clone, Copy)]
+pub struct Cut(pub usize, pub &'static str, pub &'static str);
+
+/// What the program answers to a text.
+#[derive(Clone, Copy)]
+pub enum Answer {
+    /// The text's first fault: its code, and its place in bytes.
+    Fault(u8, usize),
+    /// The text has no fault, and its kernel is not plain.
+    NotPlain,
+    /// A plan of this cost.
+    Plan(u32),
+}
+
+/// Appends a piece so many times.
+pub fn push_times(text: &mut String, piece: &str, count: usize) -> Result<(), AllocError> {
+    for _ in 0..count {
+        text.push_str(piece)?;
+    }
+    Ok(())
+}
+
+// The program answers this to the text.
+fn check(rt: &impl Abort, alloc: Global, text: &[u8], answer: Answer) -> Result<(), Fail> {
+    let words = words_of(alloc, "plan 2 t 0")?;
+    let left = run(alloc, &words, text, 4096, None)?;
+    match answer {
+        Answer::Fault(code, at) => check_fault(rt, alloc, left, code, at),
+        Answer::NotPlain => check_fault(rt, alloc, left, 0, 0),
+        Answer::Plan(cost) => check_plan(rt, alloc, left, cost),
+    }
+}
+
+// A run printed the line of a fault, and left the file as it was.
+fn check_fault(
+    rt: &impl Abort,
+    alloc: Global,
+    left: Left,
+    code: u8,
+    at: usize,
+) -> Result<(), Fail> {
+    let line = format!(in alloc; "kernel fault K{code} at {at}\n")?;
+    assert_eq!(rt;
+        str::from_utf8(left.output.as_slice())?,
+        line.as_str(),
+        "K{code} at {at}"
+    );
+    assert_eq!(rt; left.status, Status::Kernel, "K{code} at {at}");
+    let file = left.file.ok_or("no file")?;
+    assert_eq!(rt; file.as_slice(), b"old".as_slice());
+    Ok(())
+}
+
+// A run printed a report with this cost.
+fn check_plan(rt: &impl Abort, alloc: Global, left: Left, cost: u32) -> Result<(), Fail> {
+    let line = format!(in alloc; "\n; cost {cost}\n")?;
+    let output = str::from_utf8(left.output.as_slice())?;
+    assert!(rt;
+        output.contains(line.as_str()),
+        "not planned at cost {cost}"
+    );
+    assert!(rt; left.status == Status::Optimal || left.status == Status::Open);
+    Ok(())
+}
+
+// The first fault of a text has this code, and stands where the text is cut.
+fn check_cut(rt: &impl Abort, alloc: Global, code: u8, cut: Cut) -> Result<(), Fail> {
+    let Cut(at, before, rest) = cut;
+    assert_eq!(rt; before.len(), at, "K{code}");
+    let text = format!(in alloc; "{before}{rest}")?;
+    check(rt, alloc, text.as_bytes(), Answer::Fault(code, at))
+}
+
+fn check_cuts(rt: &impl Abort, alloc: Global, code: u8, cuts: &[Cut]) -> Result<(), Fail> {
+    for cut in cuts {
+        check_cut(rt, alloc, code, *cut)?;
+    }
+    Ok(())
+}
+
+#[test]
+fn first_faults(rt: HostRuntime) -> Result<(), Fail> {
+    check_cuts(&rt, rt.alloc(), 1, &tokens::BAD_CHARACTERS)?;
+    check_cuts(&rt, rt.alloc(), 2, &tokens::TOO_BIG)?;
+    check_cuts(&rt, rt.alloc(), 3, &syntax::DECLARATIONS)?;
+    check_cuts(&rt, rt.alloc(), 3, &syntax::STATEMENTS)?;
+    check_cuts(&rt, rt.alloc(), 16, &names::BAD_SIZES)?;
+    check_cuts(&rt, rt.alloc(), 5, &names::TWICE)?;
+    check_cuts(&rt, rt.alloc(), 4, &names::UNKNOWN)?;
+    check_cuts(&rt, rt.alloc(), 9, &names::NOT_WRITABLE)?;
+    check_cuts(&rt, rt.alloc(), 6, &names::INDICES)
+}
+
+#[test]
+fn first_of_several_faults(rt: HostRuntime) -> Result<(), Fail> {
+    for First(code, cut) in phases::SEVERAL {
+        check_cut(&rt, rt.alloc(), code, cut)?;
+    }
+    for First(code, cut) in phases::AT_ONE_NAME {
+        check_cut(&rt, rt.alloc(), code, cut)?;
+    }
+    Ok(())
+}
+
+#[test]
+fn bytes_that_are_no_characters(rt: HostRuntime) -> Result<(), Fail> {
+    for broken in bytes::BROKEN {
+        for Cut(at, before, rest) in bytes::GAPS {
+            assert_eq!(rt; before.len(), at);
+            let mut text = Vec::from_slice(rt.alloc(), before.as_bytes())?;
+            text.extend_from_slice(broken)?;
+            text.extend_from_slice(rest.as_bytes())?;
+            check(&rt, rt.alloc(), text.as_slice(), Answer::Fault(1, at))?;
+        }
+    }
+    Ok(())
+}
+
+#[test]
+fn texts_without_fault(rt: HostRuntime) -> Result<(), Fail> {
+    for Planned(cost, text) in accepted::PLANNED {
+        check(&rt, rt.alloc(), text.as_bytes(), Answer::Plan(cost))?;
+    }
+    for text in accepted::NOT_PLAIN {
+        check(&rt, rt.alloc(), text.as_bytes(), Answer::NotPlain)?;
+    }
+    Ok(())
+}
+
+#[test]
+fn parts_in_one_another(rt: HostRuntime) -> Result<(), Fail> {
+    for nest in levels::NESTS {
+        let fits = nest.text(rt.alloc(), nest.fits)?;
+        check(&rt, rt.alloc(), fits.as_bytes(), nest.answer)?;
+        let deeper = nest.text(rt.alloc(), nest.fits.saturating_add(1))?;
+        check(
+            &rt,
+            rt.alloc(),
+            deeper.as_bytes(),
+            Answer::Fault(13, nest.at),
+        )?;
+    }
+    for (code, rest) in levels::IN_32_GROUPS {
+        let mut text = String::from_str(rt.alloc(), "kernel a { out y; y = ")?;
+        push_times(&mut text, "(", 32)?;
+        text.push_str(rest)?;
+        check(
+            &rt,
+            rt.alloc(),
+            text.as_bytes(),
+            Answer::Fault(code, 22 + 32),
+        )?;
+    }
+    Ok(())
+}
+
+#[test]
+fn loops_in_one_another(rt: HostRuntime) -> Result<(), Fail> {
+    for (count, body, answer) in levels::LOOPS {
+        let text = levels::loops(rt.alloc(), count, body)?;
+        check(&rt, rt.alloc(), text.as_bytes(), answer)?;
+    }
+    Ok(())
+}
+
+#[test]
+fn long_texts(rt: HostRuntime) -> Result<(), Fail> {
+    for long in lengths::LONG {
+        let text = long.text(rt.alloc())?;
+        assert_eq!(rt; text.len(), long.length);
+        check(&rt, rt.alloc(), text.as_bytes(), long.answer)?;
+    }
+    Ok(())
+}

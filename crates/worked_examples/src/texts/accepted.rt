@@ -1,0 +1,186 @@
+//! Texts without a fault.
+
+/// A text of a plain kernel, and the cost of its plan. A vertex that an output needs, and that is no input, costs its distinct operands
+/// and 1.
+#[derive(Clone, Copy)]
+pub struct Planned(pub u32, pub &'static str);
+
+pub const PLANNED: [Planned; 57] = [
+    // Nothing, and declarations of each kind. An output that is an input costs nothing, one that is a constant costs its store.
+    Planned(0, "kernel a { }"),
+    Planned(0, "kernel a { in x; tmp t; }"),
+    Planned(0, "kernel a { in x; out y; y = x; }"),
+    Planned(0, "kernel a { in x; out y; tmp t; t = x; y = t; }"),
+    Planned(1, "kernel a { out y; y = 7; }"),
+    // One operation of each sign.
+    Planned(2, "kernel a { in x; out y; y = x + 1; }"),
+    Planned(2, "kernel a { in x; out y; y = 1 - x; }"),
+    Planned(2, "kernel a { in x; out y; y = x * x; }"),
+    Planned(2, "kernel a { in x; out y; y = x & 6; }"),
+    Planned(2, "kernel a { in x; out y; y = 6 | x; }"),
+    Planned(2, "kernel a { in x; out y; y = x ^ x; }"),
+    // An operation on constants is a constant.
+    Planned(1, "kernel a { out y; y = 2 * 3; }"),
+    // An output that is read and assigned again, and an operation that no output needs.
+    Planned(4, "kernel a { in x; out y; y = x + 1; y = y * 2; }"),
+    Planned(0, "kernel a { in x; out y; tmp t; t = x + 1; y = x; }"),
+    // Parentheses round an operand and round the whole make no difference.
+    Planned(0, "kernel a { in x; out y; y = (x); }"),
+    Planned(1, "kernel a { out y; y = ((7)); }"),
+    Planned(2, "kernel a { in x; out y; y = (x + 1); }"),
+    Planned(2, "kernel a { in x; out y; y = ((x) * ((2))); }"),
+    // Spaces: none where a sign parts the tokens, and of all four kinds.
+    Planned(2, "kernel a{in x;out y;y=x-1;}"),
+    Planned(
+        2,
+        "\n\tkernel\ta\r\n{ in\nx ; out\ty ; y\r=\rx\n\n+ 1 ; }\r\n ",
+    ),
+    Planned(0, "kernel a {\r\n  in x;\r\n  out y;\r\n  y = x;\r\n}\r\n"),
+    Planned(0, "kernel a {\r in x;\r out y;\r y = x;\r}\r"),
+    // Comments: before, behind and between tokens, in a row, empty, at the end of the text without a line feed.
+    Planned(0, "// first\nkernel a { }"),
+    Planned(0, "// first\r\nkernel a { }"),
+    Planned(0, "kernel a { } // last"),
+    Planned(0, "kernel a { }//"),
+    Planned(0, "kernel a { }//\n"),
+    Planned(0, "kernel//\na//\n{//\n}//\n"),
+    Planned(2, "kernel a { in x; out y; y = x // the input\n + 1; }"),
+    Planned(2, "kernel a { in x; out y; y = x//+ 2\n+ 1; }"),
+    Planned(1, "kernel a { out y; y = 1; // y = 2;\n// y = 3;\n}"),
+    // In a comment stand any characters, also those of faults, and a carriage return does not end it.
+    Planned(
+        0,
+        "kernel a { // ? 9223372036854775808 } // /* \" \u{0} \u{a0}\n}",
+    ),
+    Planned(0, "kernel a { // é имя 名前 😀\n}"),
+    Planned(0, "// c\r?\nkernel a { }"),
+    // The least and the greatest character of each length, and those beside the surrogates.
+    Planned(
+        0,
+        "kernel a { } // \u{7f}\u{80}\u{7ff}\u{800}\u{d7ff}\u{e000}\u{ffff}\u{10000}\u{10ffff}",
+    ),
+    // Names of three scripts, of letters of four bytes, with a mark, a middle point, a digit of another script.
+    Planned(0, "kernel имя { in αβ; out 名前; 名前 = αβ; }"),
+    Planned(0, "kernel 𐌰 { in 𐌰; out 𐌱; 𐌱 = 𐌰; }"),
+    Planned(
+        0,
+        "kernel a { in x\u{301}; out a·b; tmp x\u{663}; a·b = x\u{301}; }",
+    ),
+    // é in one character, and as e with a mark, are two names; so are large and small letters.
+    Planned(0, "kernel a { in é; out e\u{301}; e\u{301} = é; }"),
+    Planned(0, "kernel a { in x; out X; X = x; }"),
+    Planned(0, "kernel a { in _; out __1; __1 = _; }"),
+    // Names that begin as reserved words, or are some in other letters.
+    Planned(
+        0,
+        "kernel kernels { in in1; out output; tmp For; output = in1; }",
+    ),
+    Planned(0, "kernel a { in iff; out min_; tmp IN; min_ = iff; }"),
+    // The title is in no table.
+    Planned(0, "kernel x { in x; out y; y = x; }"),
+    // Declarations in any order.
+    Planned(0, "kernel a { out y; tmp t; in x; y = x; }"),
+    // A name of 64 bytes, counted by tens, and one of 32 letters of two bytes.
+    Planned(
+        0,
+        "kernel a123456789b123456789c123456789d123456789e123456789f123456789g123 { }",
+    ),
+    Planned(
+        0,
+        "kernel a { in a123456789b123456789c123456789d123456789e123456789f123456789g123; }",
+    ),
+    Planned(0, "kernel éééééééééééééééééééééééééééééééé { }"),
+    // Numbers: the least, the greatest, with leading zeros.
+    Planned(1, "kernel a { out y; y = 0; }"),
+    Planned(1, "kernel a { out y; y = 9223372036854775807; }"),
+    Planned(1, "kernel a { out y; y = 007; }"),
+    Planned(
+        1,
+        "kernel a { out y; y = 000000000000000000000009223372036854775807; }",
+    ),
+    // The least number of 64 bits, and wrapping at the end of the range.
+    Planned(
+        3,
+        "kernel a { in x; out y; out z; z = 0 - 9223372036854775807; z = z - 1; y = x + z; }",
+    ),
+    // Two outputs by one vertex, and two by equal constants.
+    Planned(2, "kernel a { in x; out y; out z; y = x + 1; z = y; }"),
+    Planned(2, "kernel a { out y; out z; y = 7; z = 7; }"),
+    // Equal operations are two vertices.
+    Planned(4, "kernel a { in x; out y; out z; y = x + 1; z = x + 1; }"),
+    // An operation on constants that an output reads later.
+    Planned(2, "kernel a { in x; out y; tmp t; t = 6 * 7; y = x - t; }"),
+];
+
+/// Texts without a fault whose kernels are not plain. Their fault is 0 at 0, until loops, arrays and longer right sides become graphs.
+pub const NOT_PLAIN: [&str; 58] = [
+    // Arrays of each kind, also those that are not used; sizes from 1 to 64, in two dimensions at most, with leading zeros.
+    "kernel a { in A[1]; }",
+    "kernel a { in A[64]; }",
+    "kernel a { in A[064]; }",
+    "kernel a { tmp t[1][1]; }",
+    "kernel a { tmp t[64][64]; }",
+    "kernel a { out y[2]; y[0] = 1; y[1] = 2; }",
+    "kernel a { in A[2][2]; out y; y = A[1][0]; }",
+    // Loops: empty, in one another, after one another under one name, under the title's name, with no turn.
+    "kernel a { for i in 0..1 { } }",
+    "kernel a { in x; out y; y = x; for i in 3..3 { y = x + i; } }",
+    "kernel a { for i in 0..2 { for j in 0..2 { } } }",
+    "kernel a { for i in 0..1 { } for i in 0..1 { } }",
+    "kernel a { for i in 0..1 { for j in 0..1 { } for j in 0..1 { } } }",
+    "kernel a { for a in 0..1 { } }",
+    "kernel a { out y; for i in 0..4 { y = i; } }",
+    // Two points: 1..4 is three tokens, with and without spaces.
+    "kernel a { for i in 1..4 { } }",
+    "kernel a { for i in 1 .. 4 { } }",
+    "kernel a { for i in 1//\n..//\n4 { } }",
+    // Each form of an index: sums, differences, products, minus signs, numbers, names, groups.
+    "kernel a { in A[4]; out y; y = A[1 + 2]; }",
+    "kernel a { in A[4]; out y; y = A[3 - 2 - 1]; }",
+    "kernel a { in A[4]; out y; y = A[3 * 1 + 0 * 2]; }",
+    "kernel a { in A[4]; out y; y = A[-(-1)]; }",
+    "kernel a { in A[4]; out y; y = A[- -1]; }",
+    "kernel a { in A[4]; out y; y = A[(0)]; }",
+    "kernel a { in A[4]; out y; for i in 0..4 { y = A[i]; } }",
+    "kernel a { in A[4]; out y[4]; for i in 0..4 { y[3 - i] = A[i]; } }",
+    "kernel a { in A[2][2]; out y; for i in 0..2 { for j in i..2 { y = A[i][j - i]; } } }",
+    "kernel a { for i in 0..2 { for j in i..i + 2 { for k in j * i..-i { } } } }",
+    // Two numbers that touch the sign of a loop, and a negative bound.
+    "kernel a { for i in -1..1 { } }",
+    // Chains of two operators and more; a-b-c is read from the left.
+    "kernel a { out y; y = 2*3+1; }",
+    "kernel a { in a; in b; in c; out y; y = a-b-c; }",
+    "kernel a { in x; out y; y = x + 1 + 2; }",
+    "kernel a { in x; out y; y = x | 1 ^ 2 & 3 + 4 * 5 - 6; }",
+    "kernel a { in x; out y; y = (x + 1) * 2; }",
+    "kernel a { in x; out y; y = 2 - (x + 1); }",
+    // Minus signs.
+    "kernel a { in x; out y; y = -x; }",
+    "kernel a { out y; y = -1; }",
+    "kernel a { out y; y = --1; }",
+    "kernel a { in x; out y; y = x - -1; }",
+    "kernel a { in x; out y; y = -(x); }",
+    // Calls.
+    "kernel a { in x; out y; y = min(x, 1); }",
+    "kernel a { in x; out y; y = max(x, 1); }",
+    "kernel a { in x; out y; y = sel(x, 1, 2); }",
+    "kernel a { in x; out y; y = mad(x, 2, 3); }",
+    "kernel a { in x; out y; y = min(max(x, 1), -mad(x, x, sel(x, 1, 2))); }",
+    // An element is read that is not set: before its only assignment, by its own, never set. An output is not set.
+    "kernel a { out y; tmp t; y = t; }",
+    "kernel a { out y; tmp t; y = t; t = 1; }",
+    "kernel a { out y; y = y + 1; }",
+    "kernel a { in x; tmp t; tmp u; t = u; }",
+    "kernel a { out y; }",
+    "kernel a { in x; out y; out z; y = x; }",
+    // Faults of a run: an index out of its range, too many turns, too great a bound, too many vertices.
+    "kernel a { in A[3]; out y; y = A[3]; }",
+    "kernel a { in A[3]; out y; y = A[-1]; }",
+    "kernel a { out y; for i in 0..65536 { y = 1; } }",
+    "kernel a { for i in 0..1000001 { } }",
+    "kernel a { out y; for i in 0..1000001 { } }",
+    "kernel a { in A[64][4]; in x; out y; y = x; }",
+    // A dot product, and a product of a matrix with a vector.
+    "kernel dot { in A[4]; in B[4]; out y; tmp s; s = A[0]*B[0]; for i in 1..4 { s = s + A[i]*B[i]; } y = s; }",
+    "kernel mv { in A[4][4]; in x[4]; out y[4]; for i in 0..4 { y[i] = A[i][0]*x[0]; for j in 1..4 { y[i] = y[i] + A[i][j]*x[j]; } } }",
+];
