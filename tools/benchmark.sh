@@ -1,5 +1,5 @@
 #!/bin/sh
-# Measures the program on the largest plain kernels: one of 256 vertices, and one of 65,536 bytes. Prints the mean time of a run and,
+# Measures the program on the largest kernels: one of 256 vertices, and one of 65,536 bytes. Prints the mean time of a run and,
 # where /usr/bin/time tells it, the most memory of one. It checks nothing and is no part of the gate. PEBBLE names another program.
 here=$(CDPATH= cd -- "$(dirname -- "$0")/.." && pwd) || exit 1
 pebble=${PEBBLE:-$here/pebble}

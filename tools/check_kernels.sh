@@ -1,8 +1,8 @@
 #!/bin/sh
-# Plans each kernel of kernels/ with the least number of slots that it needs, and checks the report, the code, the table and the exit
-# status against tools/run_code.py, and docs/KERNELS.md against the kernels. Of a kernel that is not planned yet, since it has arrays,
-# loops or longer right sides, it checks that the program says so and writes no table. The exit status is 0 where all agrees, or where
-# there is no python3 to check with. PEBBLE names another program than the one at the top of the repository.
+# Plans each kernel of kernels/ with the least number of slots that it needs, prints its graph and runs it on some values, and checks the
+# report, the code, the table, the outputs, the graph and the exit statuses against tools/run_code.py, and docs/KERNELS.md against the
+# kernels. The exit status is 0 where all agrees, or where there is no python3 to check with. PEBBLE names another program than the one
+# at the top of the repository.
 here=$(CDPATH= cd -- "$(dirname -- "$0")/.." && pwd) || exit 1
 pebble=${PEBBLE:-$here/pebble}
 run_code=$here/tools/run_code.py
@@ -21,5 +21,12 @@ for kernel in "$here"/kernels/*.kernel; do
     status=$?
     python3 "$run_code" check "$kernel" "$folder/output" "$folder/table" "$slots" "$status" || result=1
     rm -f "$folder/table"
+    "$pebble" graph <"$kernel" >"$folder/output"
+    python3 "$run_code" graph "$kernel" "$folder/output" "$?" || result=1
+    for vector in 3 4 7; do
+        python3 "$run_code" values "$kernel" "$vector" >"$folder/values"
+        "$pebble" run "$folder/values" <"$kernel" >"$folder/output"
+        python3 "$run_code" outputs "$kernel" "$folder/values" "$folder/output" "$?" || result=1
+    done
 done
 exit "${result:-0}"

@@ -3,21 +3,25 @@
 
   run_code.py check KERNEL OUTPUT TABLE SLOTS STATUS
       checks what `pebble plan SLOTS TABLE 0` made of a kernel: its output, its table file and its exit status
+  run_code.py values KERNEL K
+      prints a values file for a kernel: the K-th of ten lists of inputs
+  run_code.py outputs KERNEL VALUES OUTPUT STATUS
+      checks what `pebble run VALUES` printed of a kernel, and its exit status
+  run_code.py graph KERNEL OUTPUT STATUS
+      checks what `pebble graph` printed of a kernel, and its exit status
   run_code.py slots KERNEL
       prints the least number of slots that the kernel needs
   run_code.py facts KERNEL..
-      prints each kernel's row of the first or the second table of docs/KERNELS.md
+      prints each kernel's row of the table of graphs in docs/KERNELS.md
   run_code.py document DOCUMENT KERNEL..
       checks that the document has each kernel's row, and that its rows of outputs are right
 
-KERNEL, OUTPUT, TABLE and DOCUMENT are files. Python 3 alone is needed. The exit status is 0 where all agrees, 1 where something
+KERNEL, OUTPUT, TABLE, VALUES and DOCUMENT are files. Python 3 alone is needed. The exit status is 0 where all agrees, 1 where something
 does not (one line says what), and 2 for other words.
 
-The kernels may use the whole language. Those that the program does not plan yet, since they have arrays, loops or longer right sides,
-are evaluated too, and of them `check` asks that the program answers fault 0 at 0 and writes no table. The evaluator is for kernels
-without a fault: it stops at some of the faults of a text, and tells none by its code.
+The kernels may use the whole language. The evaluator is for kernels without a fault: it stops at some of the faults, and tells none by
+its code.
 """
-import os
 import re
 import struct
 import sys
@@ -29,7 +33,7 @@ Assign = namedtuple('Assign', 'target value')
 Loop = namedtuple('Loop', 'name first end body')
 Place = namedtuple('Place', 'name indices')
 Call = namedtuple('Call', 'word operands')                      # an operator is a call of its operation; a number is an int
-Trace = namedtuple('Trace', 'preds inputs outputs results')     # a graph, and the numbers of the outputs
+Trace = namedtuple('Trace', 'preds inputs outputs results lines')  # a graph, the numbers of the outputs, and the printed operations
 Facts = namedtuple('Facts', 'vertices inputs degree cost bound')
 Code = namedtuple('Code', 'slots words inputs outputs instructions')
 
@@ -239,18 +243,6 @@ def read_kernel(path):
     return kernel
 
 
-def is_plain(kernel):
-    """Whether the program plans the kernel: no array, no loop, and at most one operation on a right side, by a sign between operands."""
-    def is_operand(value):
-        return isinstance(value, (int, Place))
-
-    def is_right_side(value):
-        return is_operand(value) or value.word in WORD_OF_SIGN.values() and all(map(is_operand, value.operands))
-
-    return (not any(declaration.sizes for declaration in kernel.declarations)
-            and all(isinstance(statement, Assign) and is_right_side(statement.value) for statement in kernel.body))
-
-
 # ---- runs of kernels
 
 def elements_of(kernel, kind):
@@ -272,6 +264,7 @@ class Run:
         self.kinds = {declaration.name: declaration for declaration in kernel.declarations}
         labels = elements_of(kernel, 'in')
         self.preds = [set() for _ in labels]
+        self.lines = [f'in {label}' for label in labels]
         self.held = {label: (value, vertex) for vertex, (label, value) in enumerate(zip(labels, values))}
         self.open = {}
         self.execute(kernel.body)
@@ -319,11 +312,14 @@ class Run:
             demand(label in self.held, f'{label} is read before it is assigned')
             return self.held[label]
         operands = [self.value(operand) for operand in value.operands]
-        origins = {origin for _, origin in operands} - {None}
-        return result_of(value.word, [number for number, _ in operands]), self.vertex(origins) if origins else None
+        result = result_of(value.word, [number for number, _ in operands])
+        return result, None if all(origin is None for _, origin in operands) else self.vertex(value.word, operands)
 
-    def vertex(self, preds):
-        self.preds.append(preds)
+    def vertex(self, word, operands):
+        """A new vertex with this operation on operands, each a number and its origin."""
+        arguments = [f'#{number}' if origin is None else f'v{origin}' for number, origin in operands]
+        self.lines.append(' '.join([word] + arguments))
+        self.preds.append({origin for _, origin in operands} - {None})
         return len(self.preds) - 1
 
 
@@ -334,14 +330,14 @@ def trace_of(kernel, values=None):
     labels = elements_of(kernel, 'out')
     demand(all(label in run.held for label in labels), 'an output is not assigned')
     held = [run.held[label] for label in labels]
-    outputs = [run.vertex(set()) if origin is None else origin for _, origin in held]
+    outputs = [run.vertex('set', [(number, None)]) if origin is None else origin for number, origin in held]
     demand(len(run.preds) <= 256, 'there are more than 256 vertices')
-    return Trace(run.preds, inputs, outputs, [number for number, _ in held])
+    return Trace(run.preds, inputs, outputs, [number for number, _ in held], run.lines)
 
 
 def facts_of(kernel):
     """The numbers that the report has to print, by their definitions."""
-    preds, inputs, outputs, _ = trace_of(kernel)
+    preds, inputs, outputs, _, _ = trace_of(kernel)
     live = set(outputs)
     for v in reversed(range(len(preds))):
         if v in live:
@@ -475,12 +471,6 @@ def check(kernel_path, output_path, table_path, slots, status):
     facts = facts_of(kernel)
     with open(output_path, encoding='utf-8', newline='') as file:
         text = file.read()
-    if not is_plain(kernel):
-        demand(text == 'kernel fault K0 at 0\n', f'the output is "{text[:60]}" for a kernel that is not plain')
-        demand(int(status) == 3, f'the exit status is {status}')
-        demand(not os.path.exists(table_path), 'a table is written for a kernel that is not plain')
-        print(f'{kernel.name}: not planned yet: agrees')
-        return
     demand(text.endswith('\n'), 'the output does not end with a line feed')
     lines = text[:-1].split('\n')
     report = [line for line in lines if line.startswith(';')]
@@ -494,11 +484,33 @@ def check(kernel_path, output_path, table_path, slots, status):
     print(f'{kernel.name}: {slots} slots, cost {facts.cost}, bound {facts.bound}, {verdict_of(facts)}: agrees')
 
 
+def read_text(path):
+    with open(path, encoding='utf-8', newline='') as file:
+        return file.read()
+
+
+def check_outputs(kernel_path, values_path, output_path, status):
+    kernel = read_kernel(kernel_path)
+    results = trace_of(kernel, list(map(int, read_text(values_path).split()))).results
+    wanted = ''.join(f'{label} = {number}\n' for label, number in zip(elements_of(kernel, 'out'), results))
+    demand(read_text(output_path) == wanted, f'{kernel.name}: other outputs are printed')
+    demand(int(status) == 0, f'the exit status of run is {status}')
+
+
+def check_graph(kernel_path, output_path, status):
+    kernel = read_kernel(kernel_path)
+    facts, trace = facts_of(kernel), trace_of(kernel)
+    lines = [f'vertices {facts.vertices}', f'inputs {facts.inputs}', f'degree {facts.degree}']
+    lines += [f'{vertex} {line}' for vertex, line in enumerate(trace.lines)]
+    lines += [f'out {label} v{vertex}' for label, vertex in zip(elements_of(kernel, 'out'), trace.outputs)]
+    demand(read_text(output_path) == '\n'.join(lines) + '\n', f'{kernel.name}: another graph is printed')
+    demand(int(status) == 0, f'the exit status of graph is {status}')
+
+
 def row_of(kernel):
     facts = facts_of(kernel)
     numbers = [facts.vertices, facts.inputs, facts.degree, facts.degree + 1]
-    if is_plain(kernel):
-        numbers += [facts.cost, facts.bound, verdict_of(facts)]
+    numbers += [facts.cost, facts.bound, verdict_of(facts)]
     return f'| `{kernel.name}` | ' + ' | '.join(map(str, numbers)) + ' |'
 
 
@@ -523,6 +535,12 @@ def main(words):
     try:
         if len(words) == 6 and words[0] == 'check':
             check(*words[1:])
+        elif len(words) == 3 and words[0] == 'values':
+            print(' '.join(map(str, input_vectors(facts_of(read_kernel(words[1])).inputs)[int(words[2])])))
+        elif len(words) == 5 and words[0] == 'outputs':
+            check_outputs(*words[1:])
+        elif len(words) == 4 and words[0] == 'graph':
+            check_graph(*words[1:])
         elif len(words) == 2 and words[0] == 'slots':
             print(facts_of(read_kernel(words[1])).degree + 1)
         elif len(words) >= 2 and words[0] == 'facts':

@@ -112,6 +112,31 @@ fn writes_a_file_and_reads_it(rt: HostRuntime) -> Result<(), TestFail> {
 }
 
 #[test]
+fn refuses_a_long_file_and_fails_in_mid_file(rt: HostRuntime) -> Result<(), TestFail> {
+    let mut desk = desk(rt.alloc(), b"in", 3)?;
+    write_file(&mut desk, b"seven of")?;
+    assert_eq!(rt;
+        read_file(rt.alloc(), &mut desk, 7).err(),
+        Some(ReadEnd::TooLong)
+    );
+    desk.fail.push(Fail {
+        kind: Kind::TakeFile,
+        nth: 4,
+    })?;
+    assert_eq!(rt;
+        read_file(rt.alloc(), &mut desk, 8).err(),
+        Some(ReadEnd::ReadFault)
+    );
+    let (calls, faults) = (desk.calls, desk.faults);
+    assert_eq!(rt; calls, [0, 5, 0, 3, 1]);
+    assert_eq!(rt; faults, [0, 1, 0, 0, 0]);
+    let text = read_file(rt.alloc(), &mut desk, 8)?;
+    assert_eq!(rt; text.as_slice(), b"seven of".as_slice());
+    assert_eq!(rt; desk.input.as_slice(), b"in".as_slice());
+    Ok(())
+}
+
+#[test]
 fn fails_at_the_last_values(rt: HostRuntime) -> Result<(), TestFail> {
     let mut desk = desk(rt.alloc(), b"hello", 9)?;
     desk.starved = u64::MAX;

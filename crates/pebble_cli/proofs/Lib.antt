@@ -1,5 +1,7 @@
 pub mod Accepting
+pub mod Answering
 pub mod Causes
+pub mod Closing
 pub mod Cut
 pub mod Emitting
 pub mod GraphValues
@@ -10,4 +12,6 @@ pub mod PlanNeat
 pub mod PlanPlain
 pub mod PlanRight
 pub mod Planning
+pub mod Replies
+pub mod Running
 pub mod Told

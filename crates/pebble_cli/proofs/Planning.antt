@@ -15,7 +15,7 @@ use Rattle.scratch_machine.specs.CodePlays.{loads, stores}
 use Rattle.pebble_cli.specs.declared.status.Status.{Status}
 use Rattle.pebble_cli.specs.declared.status.Status.TheVariants.{TooSmall}
 use Rattle.kernel_ast.specs.KernelParts.{KernelParts}
-use Rattle.plain_kernels.proofs.KernelGraphLaws.{outputs-graph_of}
+use Rattle.three_address.proofs.KernelGraphLaws.{outputs-graph_of}
 use Rattle.kernel_parser.proofs.OneText.{kernels_are_well_formed}
 use Rattle.pebble_cli.specs.Accepted.{IsAccepted}
 use Rattle.pebble_cli.specs.Emitted.{Layout, output_words, laid_all, first_layout}
@@ -40,7 +40,7 @@ runs_right g text kernel game accepted values count =
     record {
       ending = record { outputs = output_values g.graph valuation.0; loads = loads (moves_of g); stores = stores (moves_of g) };
       runs = right.runs values count valuation.0 valuation.1;
-      same = sym (outputs-graph_of kernel g.graph values valuation.0 (kernels_are_well_formed text kernel accepted.reads) accepted.plain.evaluated count valuation.1);
+      same = sym (outputs-graph_of kernel g.graph values valuation.0 (kernels_are_well_formed text kernel accepted.reads) accepted.evaluated count valuation.1);
       counted = right.transfers;
     }
 

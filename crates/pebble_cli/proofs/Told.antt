@@ -2,7 +2,7 @@
 use Rattle.std.proofs.Common.{◌<◌, ◌+◌, ℕ, List, [], length, replicate, None, Some, refl, inl, arith}
 use Rattle.std.proofs.lemmas.List.{length-replicate}
 use Rattle.std.specs.declared.option.Option.{Option}
-use Rattle.desk_io.specs.Known.{Tells, TellsMore}
+use Rattle.desk_io.specs.Known.{Tells, TellsMore, TellsFile, TellsMoreFile}
 use Rattle.pebble_cli.specs.Accepted.{IsKernelFault}
 
 pub told_text : (known : Option (List ℕ)) → (text : List ℕ) × Tells known text
@@ -12,6 +12,11 @@ told_text (Some known) = (known, refl)
 pub told_more : (known : Option (List ℕ)) (limit : ℕ) → TellsMore known limit → (text : List ℕ) × Tells known text × (limit < length text)
 told_more None limit more = (replicate (limit + 1) 0, tt, rw (length-replicate {A = ℕ} (limit + 1) 0) (omega arith))
 told_more (Some known) limit more = (known, refl, more)
+
+pub told_more_file : (known : Option (Option (List ℕ))) (limit : ℕ) → TellsMoreFile known limit → (bytes : List ℕ) × TellsFile known bytes × (limit < length bytes)
+told_more_file None limit more = (replicate (limit + 1) 0, tt, rw (length-replicate {A = ℕ} (limit + 1) 0) (omega arith))
+told_more_file (Some None) limit more = absurd more
+told_more_file (Some (Some known)) limit more = (known, refl, more)
 
 -- a text of more than 65,536 bytes is fault 15 there
 pub too_long : (text : List ℕ) → 65536 < length text → IsKernelFault text 15 65536

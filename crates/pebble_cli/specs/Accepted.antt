@@ -1,41 +1,48 @@
--- Which texts the program accepts, and which fault it prints of another (this project's convention). The faults of a text are those of
--- its reading; for now a kernel that is not plain is fault 0 at 0.
-use Rattle.std.specs.Prelude.{◌≡◌, ◌⊎◌, ℕ, List}
+-- Which texts the program accepts, and which fault it prints of another (this project's convention). The faults are those of the text
+-- and, where the text has none, the first fault of its kernel's run.
+use Rattle.std.specs.Prelude.{◌≡◌, ◌⊎◌, ℕ, List, Ok, Some}
 use Rattle.comp_graph.specs.Graphs.{GraphParts}
+use Rattle.kernel_ast.specs.KernelGraph.{graph_of}
 use Rattle.kernel_ast.specs.KernelParts.{KernelParts}
+use Rattle.kernel_ast.specs.Meaning.{shape_fault}
+use Rattle.kernel_ast.specs.Places.{fault}
 use Rattle.kernel_parser.specs.declared.parse_end.ParseEnd.{ParseEnd}
 use Rattle.kernel_parser.specs.declared.parse_end.ParseEnd.TheVariants as parsing
 use Rattle.kernel_parser.specs.KernelTexts.{Reads, IsFaultOfText}
-use Rattle.plain_kernels.specs.PlainKernels.{IsPlain}
+use Rattle.loop_unroll.specs.declared.flat.ShapeEnd.{ShapeEnd}
+use Rattle.loop_unroll.specs.declared.flat.ShapeEnd.TheVariants as shape
 use Rattle.pebble_cli.specs.declared.kernel.KernelEnd.{KernelEnd}
 use Rattle.pebble_cli.specs.declared.kernel.KernelEnd.TheVariants.{Fault, NoMemory}
 
--- The text is accepted: it stands for this kernel, and the kernel is plain and has this graph.
+-- The text is accepted: it stands for this kernel, and the kernel has this graph.
 pub record IsAccepted (text : List ℕ) (kernel : KernelParts) (graph : GraphParts) : Type 0 where
   pub reads : Reads text kernel
-  pub plain : IsPlain kernel graph
+  pub evaluated : graph_of kernel ≡ Ok graph
 
--- The text has no fault of its own, and its kernel is not plain, which is fault 0 at 0.
-pub record IsNotPlain (text : List ℕ) (code at : ℕ) : Type 0 where
+-- The text has no fault of its own, and this is the first fault of its kernel's run: of the walk, or else of the values.
+pub record IsShapeFault (text : List ℕ) (code at : ℕ) : Type 0 where
   pub kernel : KernelParts
   pub reads : Reads text kernel
-  pub not_plain : (graph : GraphParts) → IsPlain kernel graph → ⊥
-  pub code_is : code ≡ 0
-  pub at_is : at ≡ 0
+  pub faulty : shape_fault kernel ≡ Some (fault code at)
 
--- the fault of a text that is not accepted: its own first fault, or that its kernel is not plain
+-- the fault of a text that is not accepted: its own first fault, or that of its kernel's run
 abbrev pub IsKernelFault : List ℕ → ℕ → ℕ → Type 0
-IsKernelFault text code at = IsFaultOfText text code at ⊎ IsNotPlain text code at
+IsKernelFault text code at = IsFaultOfText text code at ⊎ IsShapeFault text code at
 
--- without a graph the text has a fault with this code and place; want of memory means nothing
+-- without a kernel and a graph the text has a fault with this code and place; want of memory means nothing
 abbrev pub EndMeans : List ℕ → KernelEnd → Type 0
 EndMeans text (Fault code at) = IsKernelFault text code at
 EndMeans text NoMemory = Unit {0}
 
 -- the end without a kernel
-abbrev pub kernel_end : ParseEnd → KernelEnd
-kernel_end (parsing.Fault code at) = Fault code at
-kernel_end parsing.NoMemory = NoMemory
+abbrev pub end_of_text : ParseEnd → KernelEnd
+end_of_text (parsing.Fault code at) = Fault code at
+end_of_text parsing.NoMemory = NoMemory
+
+-- the end without a graph
+abbrev pub end_of_shape : ShapeEnd → KernelEnd
+end_of_shape (shape.Fault code at) = Fault code at
+end_of_shape shape.NoMemory = NoMemory
 
 -- ---- laws
 

@@ -1,9 +1,10 @@
--- What the program answers to its words and its input: the status, the printed text, and the table that is written, if one is.
+-- What the program answers to its words, its input and its file: the status, the printed text, and the table that is written, if one is.
 use Rattle.std.specs.Prelude.{◌≡◌, ◌⊎◌, ℕ, ◌+◌, ◌≤◌, Bool, true, false, List, ◌++◌, codes, Option, None, Some}
 use Rattle.std.specs.Fmt.{decimal}
 use Rattle.desk_io.specs.declared.desk.Kind.{Kind}
-use Rattle.desk_io.specs.declared.desk.Kind.TheVariants.{TakeInput, PutOutput, PutFile, ClearFile}
+use Rattle.desk_io.specs.declared.desk.Kind.TheVariants.{TakeInput, TakeFile, PutOutput, PutFile, ClearFile}
 use Rattle.desk_io.specs.Counts.{Rose}
+use Rattle.desk_io.specs.Known.{Tells}
 use Rattle.comp_graph.specs.Dags.{degree}
 use Rattle.comp_graph.specs.Games.{game_on}
 use Rattle.pebble_rules.specs.declared.moves.Move.{Move}
@@ -11,11 +12,12 @@ use Rattle.pebble_rules.specs.Rules.{start, IsComplete}
 use Rattle.comp_graph.specs.Graphs.{GraphParts, dag_of}
 use Rattle.kernel_ast.specs.KernelParts.{KernelParts}
 use Rattle.pebble_cli.specs.declared.status.Status.{Status}
-use Rattle.pebble_cli.specs.declared.status.Status.TheVariants.{Optimal, Usage, Kernel, TooSmall, Open, ReadFault, WriteFault, NoMemory}
+use Rattle.pebble_cli.specs.declared.status.Status.TheVariants.{Optimal, Done, Usage, Kernel, TooSmall, Open, ReadFault, WriteFault, NoMemory, Values}
 use Rattle.pebble_cli.specs.declared.words.Command.{Command}
 use Rattle.pebble_cli.specs.declared.words.Command.TheVariants as asked
 use Rattle.pebble_cli.specs.Accepted.{IsAccepted, IsKernelFault}
 use Rattle.pebble_cli.specs.PlanAnswers.{IsPlanned}
+use Rattle.pebble_cli.specs.RunAnswers.{IsDrawn, IsValued, IsWrongValues}
 
 -- the line that says which words there are
 abbrev pub usage_text : List ℕ
@@ -53,6 +55,11 @@ pub record IsTooSmall (slots : ℕ) (text : List ℕ) (printed : List ℕ) (tabl
   pub line : printed ≡ too_small_text (degree (dag_of graph) + 1)
   pub none : table ≡ None
 
+-- a text that is not accepted
+abbrev pub Faults : List ℕ → Status → List ℕ → Option (List ℕ) → Type 0
+Faults text Kernel printed table = IsFaulty text printed table
+Faults text _ printed table = ⊥
+
 -- a text that is not planned
 abbrev pub Refuses : ℕ → List ℕ → Status → List ℕ → Option (List ℕ) → Type 0
 Refuses slots text Kernel printed table = IsFaulty text printed table
@@ -65,24 +72,48 @@ Plans slots budget text Optimal printed table = IsPlanned slots budget text true
 Plans slots budget text Open printed table = IsPlanned slots budget text false printed table
 Plans slots budget text _ printed table = ⊥
 
+-- a text whose graph is printed
+abbrev pub Draws : List ℕ → Status → List ℕ → Option (List ℕ) → Type 0
+Draws text Done printed table = IsDrawn text printed table
+Draws text _ printed table = ⊥
+
+-- a text that is run on the values of a file, as far as the desk tells the file
+abbrev pub Runs : List ℕ → Option (Option (List ℕ)) → Status → List ℕ → Option (List ℕ) → Type 0
+Runs text file Done printed table = IsValued text file printed table
+Runs text file Values printed table = IsWrongValues text file printed table
+Runs text file _ printed table = ⊥
+
 -- the status of a verdict
 abbrev pub verdict_status : Bool → Status
 verdict_status true = Optimal
 verdict_status false = Open
 
--- the status, the text and the table that answer a command with this input; words that spell no command answer Usage
-abbrev pub Answers : Option Command → List ℕ → Status → List ℕ → Option (List ℕ) → Type 0
-Answers None text status printed table = (status ≡ Usage) × IsUsage printed table
-Answers (Some (asked.Plan slots budget)) text status printed table = Refuses slots text status printed table ⊎ Plans slots budget text status printed table
+-- the status, the text and the table that answer a command with this input and this file, as far as the desk tells the file; words that
+-- spell no command answer Usage
+abbrev pub Answers : Option Command → List ℕ → Option (Option (List ℕ)) → Status → List ℕ → Option (List ℕ) → Type 0
+Answers None text file status printed table = (status ≡ Usage) × IsUsage printed table
+Answers (Some (asked.Plan slots budget)) text file status printed table = Refuses slots text status printed table ⊎ Plans slots budget text status printed table
+Answers (Some asked.Run) text file status printed table = Faults text status printed table ⊎ Runs text file status printed table
+Answers (Some asked.Graph) text file status printed table = Faults text status printed table ⊎ Draws text status printed table
 
--- a take failed that the command makes
-abbrev pub ReadCause : Option Command → (Kind → ℕ) → (Kind → ℕ) → Type 0
-ReadCause None before now = ⊥
-ReadCause (Some (asked.Plan slots budget)) before now = Rose (before TakeInput) (now TakeInput)
+-- the input is one that is accepted, as far as the desk tells it
+pub record HasAccepted (input : Option (List ℕ)) : Type 0 where
+  pub text : List ℕ
+  pub told : Tells input text
+  pub kernel : KernelParts
+  pub graph : GraphParts
+  pub accepted : IsAccepted text kernel graph
+
+-- a take failed that the command makes; the values file is read only where the kernel is accepted
+abbrev pub ReadCause : Option Command → Option (List ℕ) → (Kind → ℕ) → (Kind → ℕ) → Type 0
+ReadCause None input before now = ⊥
+ReadCause (Some (asked.Plan slots budget)) input before now = Rose (before TakeInput) (now TakeInput)
+ReadCause (Some asked.Run) input before now = Rose (before TakeInput) (now TakeInput) ⊎ (Rose (before TakeFile) (now TakeFile) × HasAccepted input)
+ReadCause (Some asked.Graph) input before now = Rose (before TakeInput) (now TakeInput)
 
 -- a status that is answered to an input that was read to its end
 abbrev pub IsOfRead : Status → Type 0
-IsOfRead status = (status ≡ Optimal) ⊎ ((status ≡ Open) ⊎ (status ≡ TooSmall))
+IsOfRead status = (status ≡ Optimal) ⊎ ((status ≡ Open) ⊎ ((status ≡ TooSmall) ⊎ ((status ≡ Done) ⊎ (status ≡ Values))))
 
 -- the result is the status, or one of the three answers that may stand in its place: a read fault, a write fault, want of memory
 abbrev pub IsYielded : Status → Status → Type 0

@@ -1,8 +1,6 @@
 -- The one text of a code, as lines of parts (this project's convention).
 use Rattle.std.specs.Prelude.{ℕ, List, [], ◌∷◌, ◌++◌, map, take, codes}
 use Rattle.std.specs.Fmt.{decimal, signed_decimal}
-use Rattle.comp_graph.specs.declared.operation.Op.{Op}
-use Rattle.comp_graph.specs.declared.operation.Op.TheVariants.{Input, Set, Add, Sub, Mul, And, Or, Xor, Neg, Min, Max, Sel, Mad}
 use Rattle.comp_graph.specs.Operations.{arity_of}
 use Rattle.scratch_machine.specs.declared.code.Source.{Source}
 use Rattle.scratch_machine.specs.declared.code.Source.TheVariants.{Slot, Const}
@@ -10,36 +8,8 @@ use Rattle.scratch_machine.specs.declared.code.Instr.{Instr}
 use Rattle.scratch_machine.specs.declared.code.Instr.TheVariants.{Load, Store, Apply}
 use Rattle.scratch_machine.specs.declared.code.OutWord.{OutWord}
 use Rattle.scratch_machine.specs.Codes.{CodeParts}
-
--- parts, each after a space
-abbrev pub after_spaces : List (List ℕ) → List ℕ
-after_spaces [] = []
-after_spaces (part ∷ parts) = 32 ∷ (part ++ after_spaces parts)
-
--- a line: its first word, then the other parts
-abbrev pub line : List ℕ → List (List ℕ) → List ℕ
-line word parts = word ++ after_spaces parts
-
--- each line with its line feed
-abbrev pub ended : List (List ℕ) → List ℕ
-ended [] = []
-ended (line ∷ lines) = line ++ 10 ∷ ended lines
-
--- the word of an operation
-abbrev pub op_word : Op → List ℕ
-op_word Input = codes "input"
-op_word Set = codes "set"
-op_word Add = codes "add"
-op_word Sub = codes "sub"
-op_word Mul = codes "mul"
-op_word And = codes "and"
-op_word Or = codes "or"
-op_word Xor = codes "xor"
-op_word Neg = codes "neg"
-op_word Min = codes "min"
-op_word Max = codes "max"
-op_word Sel = codes "sel"
-op_word Mad = codes "mad"
+use Rattle.plan_report.specs.GraphText.{op_word}
+use Rattle.plan_report.specs.Lines.{line, ended}
 
 -- an operand: `s` and the slot, or `#` and the constant
 abbrev pub operand_text : Source → List ℕ

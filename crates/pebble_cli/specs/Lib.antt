@@ -9,7 +9,7 @@ pub mod Neat
 pub mod PlainPlan
 pub mod PlanAnswers
 pub mod PlanCode
-pub mod ReportText
+pub mod RunAnswers
 pub mod Status
 pub mod TableBytes
 pub mod Words

@@ -14,10 +14,10 @@ use Rattle.kernel_ast.specs.declared.tree.DeclKind.TheVariants.{Input, Output}
 use Rattle.kernel_ast.specs.KernelParts.{KernelParts}
 use Rattle.kernel_ast.specs.Labels.{labels_of}
 use Rattle.kernel_ast.specs.Meaning.{outputs as source_outputs}
-use Rattle.pebble_cli.specs.declared.texts.report.Facts.{Facts}
+use Rattle.plan_report.specs.declared.facts.Facts.{Facts}
+use Rattle.plan_report.specs.ReportText.{report_text}
 use Rattle.pebble_cli.specs.Accepted.{IsAccepted}
 use Rattle.pebble_cli.specs.PlanCode.{moves_of, plain_code, plain_total, bound_of}
-use Rattle.pebble_cli.specs.ReportText.{report_text}
 use Rattle.pebble_cli.specs.CodeText.{code_text}
 use Rattle.pebble_cli.specs.TableBytes.{empty_table_bytes}
 
@@ -80,7 +80,7 @@ pub record IsAnswer (kernel : KernelParts) (graph : GraphParts) (slots budget : 
   -- no complete pebbling costs less than the bound, whatever it computes again, drops or moves in vain
   pub lowest : (moves : List Move) → IsComplete (game_on graph slots) (start (game_on graph slots)) moves → plan.bound ≤ moves_cost (game_on graph slots) moves
 
--- the answer for now: the plain plan, with no position expanded
+-- the plain plan as an answer, with no position expanded
 abbrev pub plain_plan : GameParts → Plan
 plain_plan game = record {
   first = plain_total game;

@@ -5,7 +5,7 @@ use Rattle.std.specs.Char.{is_ascii_digit}
 use Rattle.std.specs.List.{list_all}
 use Rattle.std.specs.Str.{bytes_eq}
 use Rattle.pebble_cli.specs.declared.words.Command.{Command}
-use Rattle.pebble_cli.specs.declared.words.Command.TheVariants.{Plan}
+use Rattle.pebble_cli.specs.declared.words.Command.TheVariants.{Plan, Run, Graph}
 
 -- the number that digits spell, after the digits so far
 abbrev pub digits_after : ℕ → List ℕ → ℕ
@@ -29,8 +29,16 @@ abbrev pub plan_command : Option ℕ → List ℕ → Option ℕ → Option Comm
 plan_command (Some slots) (c ∷ table) (Some budget) = Some (Plan slots budget)
 plan_command _ _ _ = None
 
--- the command that the words spell: `plan S TABLE BUDGET` with 1 to 64 slots and the budget 0 (this project's convention)
+-- the run, where there is a name of a values file that is not empty
+abbrev pub run_command : List ℕ → Option Command
+run_command [] = None
+run_command (c ∷ values) = Some Run
+
+-- the command that the words spell: `plan S TABLE BUDGET` with 1 to 64 slots and the budget 0, `run VALUES`, or `graph` (this project's
+-- convention); `file_word` gives the name of TABLE or VALUES
 abbrev pub command : List (List ℕ) → Option Command
+command (name ∷ []) = if bytes_eq name (codes "graph") then Some Graph else None
+command (name ∷ values ∷ []) = if bytes_eq name (codes "run") then run_command values else None
 command (name ∷ slots ∷ table ∷ budget ∷ []) = if bytes_eq name (codes "plan") then plan_command (number 1 64 slots) table (number 0 0 budget) else None
 command _ = None
 
@@ -53,3 +61,5 @@ file_word (name ∷ rest) =
 -- the numbers of a command are in range
 abbrev pub IsInLimits : Command → Type 0
 IsInLimits (Plan slots budget) = (1 ≤ slots) × (slots ≤ 64) × (budget ≤ 0)
+IsInLimits Run = Unit {0}
+IsInLimits Graph = Unit {0}

@@ -1,17 +1,25 @@
-//! The graph of a kernel, from the bytes of its text, or the fault that the program prints.
-ghost use Rattle.std.specs.Prelude.{◌≡◌, IfOk, IfErr};
-ghost use Rattle.kernel_ast.specs.KernelParts.{KernelParts};
+//! The kernel of a text with its graph, or the fault that the program prints.
+ghost use Rattle.std.specs.Prelude.{IfOk, IfErr};
 ghost use Rattle.pebble_cli.specs.Accepted.{IsAccepted, EndMeans};
 
 use comp_graph::{Graph, NoMemory};
+use kernel_ast::Kernel;
 use kernel_parser::{ParseEnd, parse};
-use plain_kernels::plain_graph;
+use loop_unroll::{ShapeEnd, unroll};
 use std::alloc::Global;
+use three_address::lower;
 
-/// Why a text has no graph.
+/// An accepted kernel, and its graph.
+#[derive(Drop)]
+pub struct Accepted {
+    pub kernel: Kernel,
+    pub graph: Graph,
+}
+
+/// Why a text is not accepted.
 #[derive(Clone, Copy, Debug, PartialEq, Eq)]
 pub enum KernelEnd {
-    /// The fault of the text: its first one, or 0 at 0 where its kernel is not plain.
+    /// The first fault of the text or, where it has none, of its kernel's run.
     Fault {
         /// The number of the rule that is broken.
         code: u8,
@@ -35,9 +43,9 @@ impl From<NoMemory> for KernelEnd {
 
 impl From<ParseEnd> for KernelEnd {
     ghost use Rattle.std.specs.Prelude.{◌≡◌};
-    ghost use Rattle.pebble_cli.specs.Accepted.{kernel_end};
+    ghost use Rattle.pebble_cli.specs.Accepted.{end_of_text};
 
-    ghost from_gives = { λ end e. e ≡ kernel_end end };
+    ghost from_gives = { λ end e. e ≡ end_of_text end };
 
     fn from(end: ParseEnd) -> KernelEnd {
         match end {
@@ -47,19 +55,32 @@ impl From<ParseEnd> for KernelEnd {
     }
 }
 
-/// The graph of the kernel that a text stands for, where the kernel is plain.
+impl From<ShapeEnd> for KernelEnd {
+    ghost use Rattle.std.specs.Prelude.{◌≡◌};
+    ghost use Rattle.pebble_cli.specs.Accepted.{end_of_shape};
+
+    ghost from_gives = { λ end e. e ≡ end_of_shape end };
+
+    fn from(end: ShapeEnd) -> KernelEnd {
+        match end {
+            ShapeEnd::Fault { code, at } => KernelEnd::Fault { code, at },
+            ShapeEnd::NoMemory => KernelEnd::NoMemory,
+        }
+    }
+}
+
+/// The kernel that a text stands for, and its graph.
 ///
 /// # Errors
 ///
-/// [`KernelEnd::Fault`] exactly where the text has a first fault, with its code and place, or where it has none and its kernel is not
-/// plain, with 0 at 0. [`KernelEnd::NoMemory`] where memory was wanted and not found.
-pub fn accepted_graph(alloc: Global, text: &[u8]) -> Result<Graph, KernelEnd>
-    ensures graph { IfOk result (λ graph. (kernel : KernelParts) × IsAccepted text.now kernel graph) }
+/// [`KernelEnd::Fault`] with the code and place of the first fault of the text or, where the text has none, of its kernel's run: exactly
+/// where there is one. [`KernelEnd::NoMemory`] where memory was wanted and not found.
+pub fn accept(alloc: Global, text: &[u8]) -> Result<Accepted, KernelEnd>
+    ensures accepted { IfOk result (λ accepted. IsAccepted text.now accepted.kernel accepted.graph) }
     ensures fault { IfErr result (EndMeans text.now) }
 {
     let kernel = parse(alloc, text)?;
-    match plain_graph(alloc, &kernel)? {
-        Some(graph) => Ok(graph),
-        None => Err(KernelEnd::Fault { code: 0, at: 0 }),
-    }
+    let flats = unroll(alloc, &kernel)?;
+    let graph = lower(alloc, &kernel, &flats)?;
+    Ok(Accepted { kernel, graph })
 }

@@ -1,7 +1,7 @@
 //! The kernels of the folder `kernels/`: each has the graph, the cost and the bound that docs/KERNELS.md gives, and the code of its
 //! plain plan, when it is run, the outputs and as many transfers as the cost. The expected values were worked out outside of the
 //! program.
-use crate::kernel::accepted_graph;
+use crate::kernel::accept;
 use crate::plan::code::plain_code;
 use crate::plan::cost::{first_bound, plain_cost};
 use comp_graph::Game;
@@ -320,7 +320,7 @@ fn kernels_and_their_code(rt: HostRuntime) -> Result<(), Fail> {
 
 // The game on the kernel's graph with one slot more than its degree.
 fn game_of(rt: &impl Abort, alloc: Global, kernel: &Kernel) -> Result<Game, Fail> {
-    let graph = accepted_graph(alloc, kernel.text.as_bytes())?;
+    let graph = accept(alloc, kernel.text.as_bytes())?.graph;
     assert_eq!(rt; graph.len(), kernel.vertices);
     assert_eq!(rt; graph.inputs(), kernel.inputs);
     let degree = graph.degree();

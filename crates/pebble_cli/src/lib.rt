@@ -6,7 +6,7 @@ mod deliver;
 mod kernel;
 #[cfg(test)]
 mod kernel_tests;
-mod laws;
+pub mod laws;
 mod plan;
 mod status;
 mod table;
@@ -15,5 +15,6 @@ mod top;
 mod words;
 
 pub use status::Status;
-pub use top::pebble;
+pub use top::{pebble, pebble_honest};
+pub use words::Command;
 pub use words::read::file_word;

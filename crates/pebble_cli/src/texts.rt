@@ -1,6 +1,5 @@
-//! The printed texts: the report of a plan, and the text of a code.
+//! The text of a code.
 
 pub mod code;
-pub mod report;
 #[cfg(test)]
 mod tests;

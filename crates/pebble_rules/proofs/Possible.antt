@@ -220,7 +220,7 @@ compute_one g dag enough k p ready live no_input =
     (record { red_is = ap (λ r. insert r k) is.red_is; blue_is = ap (λ b. insert b k) is.blue_is }))
     (λ r has. here g r _ (stored g k p r ready has)))))
 
-true_or_false : (b : Bool) → (b ≡ true) ⊎ (b ≡ false)
+pub true_or_false : (b : Bool) → (b ≡ true) ⊎ (b ≡ false)
 true_or_false true = inl refl
 true_or_false false = inr refl
 

@@ -2,7 +2,15 @@
 #![tactic(auto)]
 
 #[cfg(test)]
+mod commands;
+#[cfg(test)]
+mod gallery;
+#[cfg(test)]
 mod program;
+#[cfg(test)]
+mod runs;
+#[cfg(test)]
+mod shapes;
 #[cfg(test)]
 mod tests;
 #[cfg(test)]

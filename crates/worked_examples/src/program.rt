@@ -37,10 +37,39 @@ pub fn run(
     if let Some(fail) = fail {
         fails.push(fail)?;
     }
+    let file = Vec::from_slice(alloc, b"old")?;
+    run_on(alloc, words, input, Some(file), most, fails)
+}
+
+/// Runs the program on the words of a line and this kernel, where the file holds these bytes.
+pub fn run_with(alloc: Global, line: &str, kernel: &str, file: &[u8]) -> Result<Left, AllocError> {
+    let words = words_of(alloc, line)?;
+    let file = Vec::from_slice(alloc, file)?;
+    run_on(
+        alloc,
+        &words,
+        kernel.as_bytes(),
+        Some(file),
+        4096,
+        Vec::new(alloc),
+    )
+}
+
+/// Runs the program on these words and this input, over a desk with this file or none, on which the named calls fail.
+pub fn run_on(
+    alloc: Global,
+    words: &[String],
+    input: &[u8],
+    file: Option<Vec<u8>>,
+    most: usize,
+    fails: Vec<Fail>,
+) -> Result<Left, AllocError>
+    requires { 1 ≤ most }
+{
     let mut desk = MemoryDesk {
         name: String::from_str(alloc, file_word(words))?,
         input: Vec::from_slice(alloc, input)?,
-        file: Some(Vec::from_slice(alloc, b"old")?),
+        file,
         output: Vec::new(alloc),
         most,
         fail: fails,

@@ -75,9 +75,9 @@ const ROWS: [Row; 7] = [
     Row {
         words: "plan 1 t 0",
         kernel: "kernel c { out y; y = 2*3+1; }",
-        status: Status::Kernel,
-        printed: "kernel fault K0 at 0\n",
-        table: b"old",
+        status: Status::Optimal,
+        printed: "; kernel c\n; vertices 1\n; inputs 0\n; degree 0\n; slots 1\n; first 1\n; cost 1\n; bound 1\n; expanded 0\n; budget 0\n; verdict Optimal\nslots 1\nwords 1\nout y 0\nset 0 #7\nstore 0 0\nend\n",
+        table: &[82, 66, 80, 84, 0, 1, 0, 1, 0, 1, 0, 0, 0, 1, 0, 0, 0, 0],
     },
 ];
 
@@ -114,8 +114,8 @@ const USAGES: [&str; 16] = [
     "plan 2 t 0 0",
     "trial 201 3 t",
     "check 65 t",
-    "graph",
-    "run v",
+    "graph g",
+    "run",
     "exec v",
     "--help",
     "",

@@ -1,4 +1,4 @@
-//! Texts of kernels, and what `plan 2 t 0` answers to each: the first fault with its place, or a plan.
+//! Texts of kernels, and what `plan 4 t 0` answers to each: the first fault with its place, or a plan.
 //!
 //! A text with a fault is written in two pieces, and the fault is where the second begins. Its place is counted in bytes by hand, from
 //! the pieces that come again and again: `kernel a { ` has 11 bytes, `in x; ` 6, `out y; ` 7, `y = ` 4, `in A[2]; ` 9, `for i in ` 9, and
@@ -29,9 +29,7 @@ pub struct Cut(pub usize, pub &'static str, pub &'static str);
 pub enum Answer {
     /// The text's first fault: its code, and its place in bytes.
     Fault(u8, usize),
-    /// The text has no fault, and its kernel is not plain.
-    NotPlain,
-    /// A plan of this cost.
+    /// The text has no fault, and its kernel has a plan of this cost.
     Plan(u32),
 }
 
@@ -45,17 +43,16 @@ pub fn push_times(text: &mut String, piece: &str, count: usize) -> Result<(), Al
 
 // The program answers this to the text.
 fn check(rt: &impl Abort, alloc: Global, text: &[u8], answer: Answer) -> Result<(), Fail> {
-    let words = words_of(alloc, "plan 2 t 0")?;
+    let words = words_of(alloc, "plan 4 t 0")?;
     let left = run(alloc, &words, text, 4096, None)?;
     match answer {
         Answer::Fault(code, at) => check_fault(rt, alloc, left, code, at),
-        Answer::NotPlain => check_fault(rt, alloc, left, 0, 0),
         Answer::Plan(cost) => check_plan(rt, alloc, left, cost),
     }
 }
 
-// A run printed the line of a fault, and left the file as it was.
-fn check_fault(
+/// A run printed the line of a fault, and left the file as it was.
+pub fn check_fault(
     rt: &impl Abort,
     alloc: Global,
     left: Left,
@@ -144,9 +141,21 @@ fn texts_without_fault(rt: HostRuntime) -> Result<(), Fail> {
     for Planned(cost, text) in accepted::PLANNED {
         check(&rt, rt.alloc(), text.as_bytes(), Answer::Plan(cost))?;
     }
-    for text in accepted::NOT_PLAIN {
-        check(&rt, rt.alloc(), text.as_bytes(), Answer::NotPlain)?;
+    for Planned(cost, text) in accepted::WHOLE_LANGUAGE {
+        check(&rt, rt.alloc(), text.as_bytes(), Answer::Plan(cost))?;
     }
+    Ok(())
+}
+
+#[test]
+fn names_of_three_scripts(rt: HostRuntime) -> Result<(), Fail> {
+    let words = words_of(rt.alloc(), "plan 2 t 0")?;
+    let left = run(rt.alloc(), &words, accepted::SCRIPTS.as_bytes(), 4096, None)?;
+    assert_eq!(rt; left.status, Status::Optimal);
+    assert_eq!(rt;
+        str::from_utf8(left.output.as_slice())?,
+        accepted::SCRIPTS_PRINTED
+    );
     Ok(())
 }
 

@@ -4,21 +4,20 @@ ghost use Rattle.comp_graph.specs.Games.{IsGame};
 ghost use Rattle.desk_io.specs.Known.{file_items};
 ghost use Rattle.kernel_ast.specs.KernelParts.{KernelParts};
 ghost use Rattle.pebble_cli.specs.Accepted.{IsAccepted, IsKernelFault};
-ghost use Rattle.pebble_cli.specs.Answers.{IsUsage, Plans, Refuses, too_small_text, verdict_status};
+ghost use Rattle.pebble_cli.specs.Answers.{IsUsage, IsFaulty, Plans, Refuses, too_small_text, verdict_status};
 ghost use Rattle.pebble_cli.specs.PlanAnswers.{facts_of, plain_plan};
 ghost use Rattle.pebble_cli.specs.PlanCode as spec;
-ghost use Rattle.pebble_cli.specs.ReportText.{report_text};
+ghost use Rattle.plan_report.specs.ReportText.{report_text};
 ghost use Rattle.pebble_cli.specs.CodeText.{code_text};
 
 use super::Answer;
-use crate::kernel::{KernelEnd, accepted_graph};
 use crate::plan::code::plain_code;
 use crate::plan::cost::{first_bound, plain_cost};
 use crate::status::Status;
 use crate::table::empty_table;
 use crate::texts::code::write_code;
-use crate::texts::report::{Facts, report};
 use comp_graph::{Game, Graph, NoMemory, TooSmall};
+use plan_report::{Facts, report};
 use std::alloc::{AllocError, Global};
 
 const USAGE: &str =
@@ -39,8 +38,7 @@ pub fn usage(alloc: Global) -> Result<Answer, AllocError>
 /// The answer to a text with this fault: its code, and its place in bytes from 0.
 pub fn kernel_fault(alloc: Global, code: u8, at: u32) -> Result<Answer, AllocError>
     ensures status { IfOk result (λ answer. answer.status ≡ Status.Kernel) }
-    ensures text { IfOk result (λ answer. (slots : ℕ) (text : List ℕ) → IsKernelFault text code at
-        → Refuses slots text answer.status answer.text.items (file_items answer.table)) }
+    ensures text { IfOk result (λ answer. (text : List ℕ) → IsKernelFault text code at → IsFaulty text answer.text.items (file_items answer.table)) }
 {
     let line = format!(in alloc; "kernel fault K{code} at {at}\n")?;
     Ok(Answer {
@@ -124,8 +122,8 @@ fn planned(alloc: Global, game: &Game, budget: u32) -> Result<Answer, NoMemory>
     })
 }
 
-// The answer to a kernel by its graph: that more slots are needed, or a plan.
-fn graph_answer(alloc: Global, slots: u16, budget: u32, graph: Graph) -> Result<Answer, NoMemory>
+/// The answer of `plan` to an accepted kernel by its graph: that more slots are needed, or a plan.
+pub fn plan_answer(alloc: Global, slots: u16, budget: u32, graph: Graph) -> Result<Answer, NoMemory>
     requires some { 0 < slots }
     requires few { slots ≤ 64 }
     requires no_budget { budget ≡ 0 }
@@ -136,20 +134,5 @@ fn graph_answer(alloc: Global, slots: u16, budget: u32, graph: Graph) -> Result<
     match Game::new(graph, slots) {
         Ok(game) => Ok(planned(alloc, &game, budget)?),
         Err(TooSmall { needs, graph: _ }) => Ok(too_small(alloc, needs)?),
-    }
-}
-
-/// The answer of `plan` to a text: that it has a fault, that more slots are needed, or a plan.
-pub fn plan_answer(alloc: Global, slots: u16, budget: u32, text: &[u8]) -> Result<Answer, NoMemory>
-    requires some { 0 < slots }
-    requires few { slots ≤ 64 }
-    requires no_budget { budget ≡ 0 }
-    ensures { IfOk result (λ answer. Refuses slots text.now answer.status answer.text.items (file_items answer.table)
-        ⊎ Plans slots budget text.now answer.status answer.text.items (file_items answer.table)) }
-{
-    match accepted_graph(alloc, text) {
-        Ok(graph) => Ok(graph_answer(alloc, slots, budget, graph)?),
-        Err(KernelEnd::Fault { code, at }) => Ok(kernel_fault(alloc, code, at)?),
-        Err(KernelEnd::NoMemory) => Err(NoMemory),
     }
 }

@@ -1,7 +1,9 @@
 //! The text of a code.
 ghost use Rattle.std.specs.Prelude.{◌≡◌, ◌≤◌, ◌++◌, ◌∷◌, [], length, map, OnOk, IfOk, string_bytes};
 ghost use Rattle.scratch_machine.specs.declared.code.Instr.TheVariants.{Apply};
-ghost use Rattle.pebble_cli.specs.CodeText.{after_spaces, op_word, operand_text, line_of_instr, line_of_input, line_of_output, ended, code_text};
+ghost use Rattle.plan_report.specs.GraphText.{op_word};
+ghost use Rattle.plan_report.specs.Lines.{after_spaces, ended};
+ghost use Rattle.pebble_cli.specs.CodeText.{operand_text, line_of_instr, line_of_input, line_of_output, code_text};
 
 use comp_graph::{Label, NoMemory, Op};
 use scratch_machine::{Code, Instr, OutWord, Source};
@@ -116,7 +118,7 @@ fn op_word(op: Op) -> &'static str
     ensures { result.now ≡ op_word op }
 {
     match op {
-        Op::Input => "input",
+        Op::Input => "in",
         Op::Set => "set",
         Op::Add => "add",
         Op::Sub => "sub",

@@ -1,5 +1,4 @@
 use super::code::write_code;
-use super::report::{Facts, report};
 use crate::table::empty_table;
 use comp_graph::{Label, Op};
 use scratch_machine::{Code, Instr, OutWord, Source};
@@ -27,28 +26,6 @@ fn small_code(rt: HostRuntime) -> Result<(), Fail> {
     let code = Code::new(2, 2, inputs, outputs, instructions);
     let text = write_code(rt.alloc(), &code)?;
     let expected = b"slots 2\nwords 2\nin x\nout y[0] 1\nload 0 0\nsub 1 #-7 s0\nstore 1 1\nend\n";
-    assert!(rt; text.as_slice() == expected.as_slice());
-    Ok(())
-}
-
-#[test]
-fn small_report(rt: HostRuntime) -> Result<(), Fail> {
-    let title = Label::new(b"p".to_vec(rt.alloc())?);
-    let facts = Facts {
-        vertices: 2,
-        inputs: 1,
-        degree: 1,
-        slots: 2,
-        first: 4,
-        cost: 4,
-        bound: 2,
-        expanded: 0,
-        budget: 0,
-        optimal: false,
-    };
-    let text = report(rt.alloc(), &title, &facts)?;
-    let expected =
-        b"; kernel p\n; vertices 2\n; inputs 1\n; degree 1\n; slots 2\n; first 4\n; cost 4\n; bound 2\n; expanded 0\n; budget 0\n; verdict Open\n";
     assert!(rt; text.as_slice() == expected.as_slice());
     Ok(())
 }

@@ -1,5 +1,5 @@
 //! What the words of a command line spell.
-ghost use Rattle.std.specs.Prelude.{◌≡◌, ◌≤◌, ◌^◌, ◌<◌, true, length, SomeIff, IfSome, map, string_bytes};
+ghost use Rattle.std.specs.Prelude.{◌≡◌, ◌≤◌, ◌^◌, ◌<◌, true, ◌∷◌, [], length, SomeIff, IfSome, map, string_bytes};
 ghost use Rattle.pebble_cli.specs.Words.{are_digits, is_plain, digits_after, number, command, file_word, word_at, IsInLimits};
 
 use super::Command;
@@ -53,26 +53,62 @@ fn number(low: u32, high: u32, word: &str) -> Option<u32>
     }
 }
 
-/// The command that the words spell: `plan S TABLE 0`, with S from 1 to 64 in plain decimal and TABLE any word that is not empty. All
-/// other words spell none.
+/// The command that the words spell: `plan S TABLE 0`, with S from 1 to 64 in plain decimal and TABLE any word that is not empty; `run
+/// VALUES`, with VALUES any word that is not empty; or `graph`. All other words spell none.
 pub fn command(words: &[String]) -> Option<Command>
     ensures value { result ≡ command (map string_bytes words.now) }
     ensures limits { IfSome result IsInLimits }
 {
     match words {
-        [name, slots, table, budget] => {
-            if name.as_str() != "plan" || table.is_empty() {
-                return None;
-            }
-            let slots = number(1, MOST_SLOTS, slots.as_str())?;
-            let budget = number(0, MOST_BUDGET, budget.as_str())?;
-            Some(Command::Plan {
-                slots: slots as u16,
-                budget,
-            })
-        }
+        [name] => graph_command(name.as_str()),
+        [name, values] => run_command(name.as_str(), values.as_str()),
+        [name, slots, table, budget] => plan_command(
+            name.as_str(),
+            slots.as_str(),
+            table.as_str(),
+            budget.as_str(),
+        ),
         _ => None,
     }
+}
+
+// The command of one word.
+fn graph_command(name: &str) -> Option<Command>
+    ensures value { result ≡ command (name.now ∷ []) }
+    ensures limits { IfSome result IsInLimits }
+{
+    if name == "graph" {
+        Some(Command::Graph)
+    } else {
+        None
+    }
+}
+
+// The command of two words.
+fn run_command(name: &str, values: &str) -> Option<Command>
+    ensures value { result ≡ command (name.now ∷ values.now ∷ []) }
+    ensures limits { IfSome result IsInLimits }
+{
+    if name != "run" || values.is_empty() {
+        return None;
+    }
+    Some(Command::Run)
+}
+
+// The command of four words.
+fn plan_command(name: &str, slots: &str, table: &str, budget: &str) -> Option<Command>
+    ensures value { result ≡ command (name.now ∷ slots.now ∷ table.now ∷ budget.now ∷ []) }
+    ensures limits { IfSome result IsInLimits }
+{
+    if name != "plan" || table.is_empty() {
+        return None;
+    }
+    let slots = number(1, MOST_SLOTS, slots)?;
+    let budget = number(0, MOST_BUDGET, budget)?;
+    Some(Command::Plan {
+        slots: slots as u16,
+        budget,
+    })
 }
 
 /// The word that names the file: the third after `plan` or `check`, the second after `run` or `exec`, the fourth after `trial`. Where

@@ -20,6 +20,10 @@ fn commands(rt: HostRuntime) -> Result<(), Fail> {
         budget: 0,
     };
     assert_eq!(rt; command(&plan), Some(asked));
+    let run = words(rt.alloc(), "run v")?;
+    assert_eq!(rt; command(&run), Some(Command::Run));
+    let graph = words(rt.alloc(), "graph")?;
+    assert_eq!(rt; command(&graph), Some(Command::Graph));
     let others = [
         "plan 0 t 0",
         "plan 02 t 0",
@@ -29,6 +33,9 @@ fn commands(rt: HostRuntime) -> Result<(), Fail> {
         "plan 2 t",
         "plan 2  0",
         "check 2 t 0",
+        "run",
+        "run v w",
+        "graph g",
         "",
     ];
     for line in others {

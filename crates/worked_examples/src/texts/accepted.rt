@@ -1,6 +1,6 @@
 //! Texts without a fault.
 
-/// A text of a plain kernel, and the cost of its plan. A vertex that an output needs, and that is no input, costs its distinct operands
+/// A text, and the cost of the plain plan of its kernel. A vertex that an output needs, and that is no input, costs its distinct operands
 /// and 1.
 #[derive(Clone, Copy)]
 pub struct Planned(pub u32, pub &'static str);
@@ -112,75 +112,99 @@ pub const PLANNED: [Planned; 57] = [
     Planned(2, "kernel a { in x; out y; tmp t; t = 6 * 7; y = x - t; }"),
 ];
 
-/// Texts without a fault whose kernels are not plain. Their fault is 0 at 0, until loops, arrays and longer right sides become graphs.
-pub const NOT_PLAIN: [&str; 58] = [
+/// A kernel with names of three scripts, and all that is printed of it: the names as they are written.
+pub const SCRIPTS: &str = "// α + 1\nkernel имя { in α; out 名; 名 = α + 1; }";
+
+pub const SCRIPTS_PRINTED: &str =
+    "; kernel имя\n; vertices 2\n; inputs 1\n; degree 1\n; slots 2\n; first 2\n; cost 2\n; bound 2\n; expanded 0\n; budget 0\n; verdict Optimal\nslots 2\nwords 2\nin α\nout 名 1\nload 0 0\nadd 1 s0 #1\nstore 1 1\nend\n";
+
+/// Texts of kernels with arrays, loops and longer right sides, with their costs.
+pub const WHOLE_LANGUAGE: [Planned; 46] = [
     // Arrays of each kind, also those that are not used; sizes from 1 to 64, in two dimensions at most, with leading zeros.
-    "kernel a { in A[1]; }",
-    "kernel a { in A[64]; }",
-    "kernel a { in A[064]; }",
-    "kernel a { tmp t[1][1]; }",
-    "kernel a { tmp t[64][64]; }",
-    "kernel a { out y[2]; y[0] = 1; y[1] = 2; }",
-    "kernel a { in A[2][2]; out y; y = A[1][0]; }",
+    Planned(0, "kernel a { in A[1]; }"),
+    Planned(0, "kernel a { in A[64]; }"),
+    Planned(0, "kernel a { in A[064]; }"),
+    Planned(0, "kernel a { tmp t[1][1]; }"),
+    Planned(0, "kernel a { tmp t[64][64]; }"),
+    Planned(2, "kernel a { out y[2]; y[0] = 1; y[1] = 2; }"),
+    Planned(0, "kernel a { in A[2][2]; out y; y = A[1][0]; }"),
     // Loops: empty, in one another, after one another under one name, under the title's name, with no turn.
-    "kernel a { for i in 0..1 { } }",
-    "kernel a { in x; out y; y = x; for i in 3..3 { y = x + i; } }",
-    "kernel a { for i in 0..2 { for j in 0..2 { } } }",
-    "kernel a { for i in 0..1 { } for i in 0..1 { } }",
-    "kernel a { for i in 0..1 { for j in 0..1 { } for j in 0..1 { } } }",
-    "kernel a { for a in 0..1 { } }",
-    "kernel a { out y; for i in 0..4 { y = i; } }",
+    Planned(0, "kernel a { for i in 0..1 { } }"),
+    Planned(
+        0,
+        "kernel a { in x; out y; y = x; for i in 3..3 { y = x + i; } }",
+    ),
+    Planned(0, "kernel a { for i in 0..2 { for j in 0..2 { } } }"),
+    Planned(0, "kernel a { for i in 0..1 { } for i in 0..1 { } }"),
+    Planned(
+        0,
+        "kernel a { for i in 0..1 { for j in 0..1 { } for j in 0..1 { } } }",
+    ),
+    Planned(0, "kernel a { for a in 0..1 { } }"),
+    Planned(1, "kernel a { out y; for i in 0..4 { y = i; } }"),
     // Two points: 1..4 is three tokens, with and without spaces.
-    "kernel a { for i in 1..4 { } }",
-    "kernel a { for i in 1 .. 4 { } }",
-    "kernel a { for i in 1//\n..//\n4 { } }",
+    Planned(0, "kernel a { for i in 1..4 { } }"),
+    Planned(0, "kernel a { for i in 1 .. 4 { } }"),
+    Planned(0, "kernel a { for i in 1//\n..//\n4 { } }"),
     // Each form of an index: sums, differences, products, minus signs, numbers, names, groups.
-    "kernel a { in A[4]; out y; y = A[1 + 2]; }",
-    "kernel a { in A[4]; out y; y = A[3 - 2 - 1]; }",
-    "kernel a { in A[4]; out y; y = A[3 * 1 + 0 * 2]; }",
-    "kernel a { in A[4]; out y; y = A[-(-1)]; }",
-    "kernel a { in A[4]; out y; y = A[- -1]; }",
-    "kernel a { in A[4]; out y; y = A[(0)]; }",
-    "kernel a { in A[4]; out y; for i in 0..4 { y = A[i]; } }",
-    "kernel a { in A[4]; out y[4]; for i in 0..4 { y[3 - i] = A[i]; } }",
-    "kernel a { in A[2][2]; out y; for i in 0..2 { for j in i..2 { y = A[i][j - i]; } } }",
-    "kernel a { for i in 0..2 { for j in i..i + 2 { for k in j * i..-i { } } } }",
+    Planned(0, "kernel a { in A[4]; out y; y = A[1 + 2]; }"),
+    Planned(0, "kernel a { in A[4]; out y; y = A[3 - 2 - 1]; }"),
+    Planned(0, "kernel a { in A[4]; out y; y = A[3 * 1 + 0 * 2]; }"),
+    Planned(0, "kernel a { in A[4]; out y; y = A[-(-1)]; }"),
+    Planned(0, "kernel a { in A[4]; out y; y = A[- -1]; }"),
+    Planned(0, "kernel a { in A[4]; out y; y = A[(0)]; }"),
+    Planned(
+        0,
+        "kernel a { in A[4]; out y; for i in 0..4 { y = A[i]; } }",
+    ),
+    Planned(
+        0,
+        "kernel a { in A[4]; out y[4]; for i in 0..4 { y[3 - i] = A[i]; } }",
+    ),
+    Planned(
+        0,
+        "kernel a { in A[2][2]; out y; for i in 0..2 { for j in i..2 { y = A[i][j - i]; } } }",
+    ),
+    Planned(
+        0,
+        "kernel a { for i in 0..2 { for j in i..i + 2 { for k in j * i..-i { } } } }",
+    ),
     // Two numbers that touch the sign of a loop, and a negative bound.
-    "kernel a { for i in -1..1 { } }",
+    Planned(0, "kernel a { for i in -1..1 { } }"),
     // Chains of two operators and more; a-b-c is read from the left.
-    "kernel a { out y; y = 2*3+1; }",
-    "kernel a { in a; in b; in c; out y; y = a-b-c; }",
-    "kernel a { in x; out y; y = x + 1 + 2; }",
-    "kernel a { in x; out y; y = x | 1 ^ 2 & 3 + 4 * 5 - 6; }",
-    "kernel a { in x; out y; y = (x + 1) * 2; }",
-    "kernel a { in x; out y; y = 2 - (x + 1); }",
+    Planned(1, "kernel a { out y; y = 2*3+1; }"),
+    Planned(6, "kernel a { in a; in b; in c; out y; y = a-b-c; }"),
+    Planned(4, "kernel a { in x; out y; y = x + 1 + 2; }"),
+    Planned(
+        2,
+        "kernel a { in x; out y; y = x | 1 ^ 2 & 3 + 4 * 5 - 6; }",
+    ),
+    Planned(4, "kernel a { in x; out y; y = (x + 1) * 2; }"),
+    Planned(4, "kernel a { in x; out y; y = 2 - (x + 1); }"),
     // Minus signs.
-    "kernel a { in x; out y; y = -x; }",
-    "kernel a { out y; y = -1; }",
-    "kernel a { out y; y = --1; }",
-    "kernel a { in x; out y; y = x - -1; }",
-    "kernel a { in x; out y; y = -(x); }",
+    Planned(2, "kernel a { in x; out y; y = -x; }"),
+    Planned(1, "kernel a { out y; y = -1; }"),
+    Planned(1, "kernel a { out y; y = --1; }"),
+    Planned(2, "kernel a { in x; out y; y = x - -1; }"),
+    Planned(2, "kernel a { in x; out y; y = -(x); }"),
     // Calls.
-    "kernel a { in x; out y; y = min(x, 1); }",
-    "kernel a { in x; out y; y = max(x, 1); }",
-    "kernel a { in x; out y; y = sel(x, 1, 2); }",
-    "kernel a { in x; out y; y = mad(x, 2, 3); }",
-    "kernel a { in x; out y; y = min(max(x, 1), -mad(x, x, sel(x, 1, 2))); }",
+    Planned(2, "kernel a { in x; out y; y = min(x, 1); }"),
+    Planned(2, "kernel a { in x; out y; y = max(x, 1); }"),
+    Planned(2, "kernel a { in x; out y; y = sel(x, 1, 2); }"),
+    Planned(2, "kernel a { in x; out y; y = mad(x, 2, 3); }"),
+    Planned(
+        12,
+        "kernel a { in x; out y; y = min(max(x, 1), -mad(x, x, sel(x, 1, 2))); }",
+    ),
     // An element is read that is not set: before its only assignment, by its own, never set. An output is not set.
-    "kernel a { out y; tmp t; y = t; }",
-    "kernel a { out y; tmp t; y = t; t = 1; }",
-    "kernel a { out y; y = y + 1; }",
-    "kernel a { in x; tmp t; tmp u; t = u; }",
-    "kernel a { out y; }",
-    "kernel a { in x; out y; out z; y = x; }",
     // Faults of a run: an index out of its range, too many turns, too great a bound, too many vertices.
-    "kernel a { in A[3]; out y; y = A[3]; }",
-    "kernel a { in A[3]; out y; y = A[-1]; }",
-    "kernel a { out y; for i in 0..65536 { y = 1; } }",
-    "kernel a { for i in 0..1000001 { } }",
-    "kernel a { out y; for i in 0..1000001 { } }",
-    "kernel a { in A[64][4]; in x; out y; y = x; }",
     // A dot product, and a product of a matrix with a vector.
-    "kernel dot { in A[4]; in B[4]; out y; tmp s; s = A[0]*B[0]; for i in 1..4 { s = s + A[i]*B[i]; } y = s; }",
-    "kernel mv { in A[4][4]; in x[4]; out y[4]; for i in 0..4 { y[i] = A[i][0]*x[0]; for j in 1..4 { y[i] = y[i] + A[i][j]*x[j]; } } }",
+    Planned(
+        21,
+        "kernel dot { in A[4]; in B[4]; out y; tmp s; s = A[0]*B[0]; for i in 1..4 { s = s + A[i]*B[i]; } y = s; }",
+    ),
+    Planned(
+        84,
+        "kernel mv { in A[4][4]; in x[4]; out y[4]; for i in 0..4 { y[i] = A[i][0]*x[0]; for j in 1..4 { y[i] = y[i] + A[i][j]*x[j]; } } }",
+    ),
 ];

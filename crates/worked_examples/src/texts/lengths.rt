@@ -14,24 +14,24 @@ pub struct Long {
 }
 
 /// The kernel y = x + 1 in 36 bytes.
-const PLAIN: &str = "kernel p { in x; out y; y = x + 1; }";
+const KERNEL: &str = "kernel p { in x; out y; y = x + 1; }";
 
 pub const LONG: [Long; 14] = [
     // A text of 65,536 bytes is read, and one byte more is too long, even if it is a space.
     Long {
-        pieces: [PLAIN, " ", ""],
+        pieces: [KERNEL, " ", ""],
         count: 65500,
         length: 65536,
         answer: Answer::Plan(2),
     },
     Long {
-        pieces: [PLAIN, " ", ""],
+        pieces: [KERNEL, " ", ""],
         count: 65501,
         length: 65537,
         answer: Answer::Fault(15, 65536),
     },
     Long {
-        pieces: ["//", " ", PLAIN],
+        pieces: ["//", " ", KERNEL],
         count: 65498,
         length: 65536,
         answer: Answer::Fault(3, 65536),
@@ -106,11 +106,12 @@ pub const LONG: [Long; 14] = [
         pieces: ["kernel a { out y; y = ", "1+", "1; }"],
         count: 32000,
         length: 64026,
-        answer: Answer::NotPlain,
+        answer: Answer::Plan(1),
     },
 ];
 
 impl Long {
+    /// The text with its piece so many times.
     pub fn text(&self, alloc: Global) -> Result<String, AllocError> {
         let [first, piece, last] = self.pieces;
         let mut text = String::from_str(alloc, first)?;

@@ -26,58 +26,58 @@ pub const NESTS: [Nest; 20] = [
     Nest {
         fits: 32,
         at: 22 + 32,
-        answer: Answer::NotPlain,
+        answer: Answer::Plan(1),
         pieces: ["kernel a { out y; y = ", "-", "1", "", "; }"],
     },
     Nest {
         fits: 32,
         at: 22 + 32 * 4,
-        answer: Answer::NotPlain,
+        answer: Answer::Plan(1),
         pieces: ["kernel a { out y; y = ", "min(", "1", ",1)", "; }"],
     },
     Nest {
         fits: 32,
         at: 22 + 32 * 6,
-        answer: Answer::NotPlain,
+        answer: Answer::Plan(1),
         pieces: ["kernel a { out y; y = ", "max(1,", "1", ")", "; }"],
     },
     Nest {
         fits: 32,
         at: 22 + 32 * 8,
-        answer: Answer::NotPlain,
+        answer: Answer::Plan(1),
         pieces: ["kernel a { out y; y = ", "sel(1,2,", "1", ")", "; }"],
     },
     Nest {
         fits: 32,
         at: 22 + 32 * 6,
-        answer: Answer::NotPlain,
+        answer: Answer::Plan(1),
         pieces: ["kernel a { out y; y = ", "mad(1,", "1", ",1)", "; }"],
     },
     // A minus sign and a group are two parts.
     Nest {
         fits: 16,
         at: 22 + 16 * 2,
-        answer: Answer::NotPlain,
+        answer: Answer::Plan(1),
         pieces: ["kernel a { out y; y = ", "-(", "1", ")", "; }"],
     },
     // The parenthesis of a call opens no part.
     Nest {
         fits: 31,
         at: 26 + 31,
-        answer: Answer::NotPlain,
+        answer: Answer::Plan(1),
         pieces: ["kernel a { out y; y = min(", "(", "1", ")", ", 1); }"],
     },
     Nest {
         fits: 31,
         at: 28 + 31,
-        answer: Answer::NotPlain,
+        answer: Answer::Plan(1),
         pieces: ["kernel a { out y; y = max(1,", "(", "1", ")", "); }"],
     },
     // One minus sign is a part round the groups behind it.
     Nest {
         fits: 31,
         at: 23 + 31,
-        answer: Answer::NotPlain,
+        answer: Answer::Plan(1),
         pieces: ["kernel a { out y; y = -", "(", "1", ")", "; }"],
     },
     // A part that is closed counts no more, and a minus sign holds its own operand alone.
@@ -90,52 +90,52 @@ pub const NESTS: [Nest; 20] = [
     Nest {
         fits: 32,
         at: 25 + 32,
-        answer: Answer::NotPlain,
+        answer: Answer::Plan(1),
         pieces: ["kernel a { out y; y = -1*", "(", "1", ")", "; }"],
     },
     // An operator opens no part.
     Nest {
         fits: 32,
         at: 22 + 32 * 3 + 2,
-        answer: Answer::NotPlain,
+        answer: Answer::Plan(1),
         pieces: ["kernel a { out y; y = ", "1+(", "1", ")", "; }"],
     },
     // Brackets open no part: in a place that is read, and in a target.
     Nest {
         fits: 32,
         at: 33 + 32,
-        answer: Answer::NotPlain,
+        answer: Answer::Plan(0),
         pieces: ["kernel a { in A[1]; out y; y = A[", "(", "0", ")", "]; }"],
     },
     Nest {
         fits: 32,
         at: 33 + 32,
-        answer: Answer::NotPlain,
+        answer: Answer::Plan(0),
         pieces: ["kernel a { in A[1]; out y; y = A[", "-", "0", "", "]; }"],
     },
     Nest {
         fits: 32,
         at: 23 + 32,
-        answer: Answer::NotPlain,
+        answer: Answer::Plan(1),
         pieces: ["kernel a { out y[1]; y[", "(", "0", ")", "] = 1; }"],
     },
     // A loop is a part round its bounds and its body.
     Nest {
         fits: 31,
         at: 20 + 31,
-        answer: Answer::NotPlain,
+        answer: Answer::Plan(0),
         pieces: ["kernel a { for i in ", "(", "0", ")", "..1 { } }"],
     },
     Nest {
         fits: 31,
         at: 23 + 31,
-        answer: Answer::NotPlain,
+        answer: Answer::Plan(0),
         pieces: ["kernel a { for i in 0..", "-", "1", "", " { } }"],
     },
     Nest {
         fits: 31,
         at: 38 + 31,
-        answer: Answer::NotPlain,
+        answer: Answer::Plan(1),
         pieces: [
             "kernel a { out y; for i in 0..1 { y = ",
             "(",
@@ -148,7 +148,7 @@ pub const NESTS: [Nest; 20] = [
     Nest {
         fits: 32,
         at: 40 + 32,
-        answer: Answer::NotPlain,
+        answer: Answer::Plan(1),
         pieces: [
             "kernel a { out y; for i in 0..1 { } y = ",
             "(",
@@ -190,9 +190,9 @@ pub const IN_32_GROUPS: [(u8, &str); 11] = [
 
 /// So many loops in one another, what stands in the innermost one, and the answer. The first loop is at byte 18, and each has 16 bytes.
 pub const LOOPS: [(usize, &str, Answer); 6] = [
-    (31, "Y = (1); ", Answer::NotPlain),
+    (31, "Y = (1); ", Answer::Plan(1)),
     (31, "Y = -(1); ", Answer::Fault(13, 18 + 31 * 16 + 5)),
-    (32, "Y = 1; ", Answer::NotPlain),
+    (32, "Y = 1; ", Answer::Plan(1)),
     (32, "Y = (1); ", Answer::Fault(13, 18 + 32 * 16 + 4)),
     (33, "Y = 1; ", Answer::Fault(13, 18 + 32 * 16)),
     (34, "Y = 1; ", Answer::Fault(13, 18 + 32 * 16)),

@@ -1,15 +1,14 @@
+-- The answer of a command to the input.
+use Rattle.std.proofs.Common.{Err, ap, subst}
+use Rattle.desk_io.specs.Known.{Tells, file_items}
+use Rattle.pebble_cli.proofs.Answering.{faulty_answers, told_answers, refusal_behind, same_writes}
 use Rattle.pebble_cli.proofs.Causes.{fault_is_not_of_read}
-use Rattle.pebble_cli.proofs.Told.{told_more}
+use Rattle.pebble_cli.proofs.Told.{told_more, too_long}
 use Rattle.pebble_cli.proofs.top.answer_kernel.Goals as goal
 
-pub returns-in_ok-command_answer-in-Ok-clause-answers : goal.returns-in_ok-command_answer-in-Ok-clause-answers
-returns-in_ok-command_answer-in-Ok-clause-answers g c =
-    (c.in-Ok.text.items, c.in-Ok.ensures.whole, rw c.deref.ensures.value at c.in_ok-command_answer-in-Ok.ensures)
-
-pub returns-in_ok-too_long_answer-in-Err-TooLong-clause-answers : goal.returns-in_ok-too_long_answer-in-Err-TooLong-clause-answers
-returns-in_ok-too_long_answer-in-Err-TooLong-clause-answers g c =
-    let told = told_more _ 65536 (c.in-Err-TooLong.ensures.too_long cc) in
-    (told.0, told.1, c.in_ok-too_long_answer-in-Err-TooLong.ensures.answers told.0 told.2)
-
-pub returns-in_ok-too_long_answer-in-Err-TooLong-clause-read_whole : goal.returns-in_ok-too_long_answer-in-Err-TooLong-clause-read_whole
-returns-in_ok-too_long_answer-in-Err-TooLong-clause-read_whole g c of = absurd (fault_is_not_of_read _ c.in_ok-too_long_answer-in-Err-TooLong.ensures.status of)
+pub returns-in_ok-kernel_fault-in-Err-TooLong-clause-answers : goal.returns-in_ok-kernel_fault-in-Err-TooLong-clause-answers
+returns-in_ok-kernel_fault-in-Err-TooLong-clause-answers g c =
+    let told = told_more (g.D.Desk.input c.args.desk.now) 65536 (c.in-Err-TooLong.ensures.too_long (ap Err c.in-Err-TooLong.field-0-is)) in
+    let answer = c.in_ok-kernel_fault-in-Err-TooLong.field-0 in
+    let is = c.in_ok-kernel_fault-in-Err-TooLong.ensures in
+    (told.0, told.1, faulty_answers c.args.command told.0 (g.D.Desk.file c.args.desk.now) answer.status answer.text.items (file_items answer.table) is.status (is.text told.0 (too_long told.0 told.2)))

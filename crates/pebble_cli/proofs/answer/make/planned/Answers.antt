@@ -1,10 +1,10 @@
 use Rattle.std.proofs.Common.{◌++◌, ap, ◌∙◌}
-use Rattle.pebble_cli.specs.ReportText.{report_text}
+use Rattle.plan_report.specs.ReportText.{report_text}
 use Rattle.pebble_cli.specs.CodeText.{code_text}
 use Rattle.pebble_cli.specs.PlanCode.{plain_code}
 use Rattle.pebble_cli.specs.TableBytes.{empty_table_bytes}
 use Rattle.pebble_cli.specs.Answers.{verdict_status}
-use Rattle.pebble_cli.specs.declared.texts.report.Facts.{Facts}
+use Rattle.plan_report.specs.declared.facts.Facts.{Facts}
 use Rattle.pebble_cli.proofs.Planning.{plain_plan_is_planned}
 use Rattle.pebble_cli.proofs.answer.make.planned.Goals as goal
 

@@ -1,7 +1,8 @@
 -- The text so far and the lines that are left are the whole text.
 use Rattle.std.proofs.Common.{◌≡◌, ◌++◌, ◌∷◌, [], map, drop}
 use Rattle.std.specs.Prelude.{codes}
-use Rattle.pebble_cli.specs.CodeText.{ended, line_of_input, line_of_output, line_of_instr, code_text}
+use Rattle.plan_report.specs.Lines.{ended}
+use Rattle.pebble_cli.specs.CodeText.{line_of_input, line_of_output, line_of_instr, code_text}
 use Rattle.pebble_cli.proofs.texts.code.write_code.Given as goal
 
 abbrev pub invariant-loop-label : goal.invariant-loop-label

@@ -1,0 +1,5 @@
+pub mod Ends
+pub mod Flats
+pub mod Laws
+pub mod Plays
+pub mod ShapeEnds

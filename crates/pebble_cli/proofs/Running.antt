@@ -1,0 +1,126 @@
+-- What `run` answers to the values of a file.
+use Rattle.std.proofs.Common.{◌≡◌, ◌≢◌, ◌≤◌, ◌<◌, ◌+◌, ℕ, zero, suc, ℤ, List, [], ◌∷◌, ◌++◌, length, map, Option, None, Some, Result, Ok, Err, IfOk, refl, sym, ap, ◌∙◌, subst, arith}
+use Rattle.std.proofs.lemmas.List.{length-append, length-map}
+use Rattle.comp_graph.specs.declared.node.Output.{Output}
+use Rattle.comp_graph.specs.Graphs.{GraphParts}
+use Rattle.desk_io.specs.Known.{TellsFile, file_items}
+use Rattle.kernel_ast.specs.declared.tree.DeclKind.TheVariants as kinds
+use Rattle.kernel_ast.specs.KernelParts.{KernelParts}
+use Rattle.kernel_ast.specs.Labels.{labels_of}
+use Rattle.kernel_ast.specs.Meaning.{outputs}
+use Rattle.kernel_parser.proofs.OneText.{kernels_are_well_formed}
+use Rattle.plan_report.specs.OutputsText.{outputs_text}
+use Rattle.scratch_machine.specs.Values.{output_values}
+use Rattle.source_machine.specs.Inputs.{input_count}
+use Rattle.source_machine.specs.RunEnds.{IsRun, IsWrongCount}
+use Rattle.three_address.proofs.KernelGraphLaws.{length-labels_of, outputs-graph_of}
+use Rattle.values_text.specs.Numbers.{number_of}
+use Rattle.values_text.specs.Values.{BeginsWith, Spells}
+use Rattle.pebble_cli.specs.declared.answer.Answer.{Answer}
+use Rattle.pebble_cli.specs.declared.status.Status.{Status}
+use Rattle.pebble_cli.specs.declared.status.Status.TheVariants.{Done, Values}
+use Rattle.pebble_cli.specs.Accepted.{IsAccepted}
+use Rattle.pebble_cli.specs.Answers.{Runs}
+use Rattle.pebble_cli.specs.RunAnswers.{IsValuesFile, IsNoValuesFile, IsValued, IsWrongValues, values_fault_text}
+use Rattle.pebble_cli.proofs.Accepting.{accepted_graph, accepted_labels}
+use Rattle.pebble_cli.proofs.GraphValues.{values_exist}
+
+-- ---- values files
+
+-- a word that spells a number is not empty
+some_word : (word : List ℕ) (value : ℤ) → number_of word ≡ Some value → 0 < length word
+some_word [] value h = absurd (cc)
+some_word (c ∷ cs) value h = omega arith
+
+-- a text has at least as many bytes as it spells numbers
+pub few_values : (text : List ℕ) (values : List ℤ) → Spells text values → length values ≤ length text
+few_values text [] h = omega arith
+few_values text (value ∷ values) (rest, begins, more) =
+    let word = some_word begins.word value begins.number in
+    let front = ap length begins.split ∙ length-append begins.gap (begins.word ++ rest) in
+    let back = length-append begins.word rest in
+    let behind = few_values rest values more in
+    omega (arith, word, front, back, behind)
+
+-- a file that spells no list holds no values
+pub no_list : (kernel : KernelParts) (bytes : List ℕ) → ((values : List ℤ) → Spells bytes values → ⊥) → IsNoValuesFile kernel bytes
+no_list kernel bytes none values file = none values file.spelled
+
+-- a file that is too long holds no values
+pub no_room : (kernel : KernelParts) (bytes : List ℕ) → 1000000 < length bytes → IsNoValuesFile kernel bytes
+no_room kernel bytes long values file = let short = file.short in omega (arith, long, short)
+
+-- as many labels as there are input elements
+labels_counted : (kernel : KernelParts) → length (labels_of kinds.Input kernel.decls) ≡ input_count kernel
+labels_counted kernel = length-labels_of kinds.Input 0 kernel.decls
+
+-- a file that spells another number of values holds none
+pub wrong_count : (kernel : KernelParts) (bytes : List ℕ) (values : List ℤ) (needs got : ℕ) → ((others : List ℤ) → Spells bytes others → others ≡ values)
+    → IsWrongCount kernel values needs got → IsNoValuesFile kernel bytes
+wrong_count kernel bytes values needs got only wrong others file =
+    let same : others ≡ values = only others file.spelled in
+    wrong.differ (wrong.needed ∙ sym (labels_counted kernel) ∙ sym file.counted ∙ ap length same ∙ sym wrong.given)
+
+-- ---- outputs
+
+-- as many outputs as the graph has
+pub outputs_counted : (text : List ℕ) (kernel : KernelParts) (graph : GraphParts) (values found : List ℤ) → IsAccepted text kernel graph → IsRun kernel values found
+    → length graph.outputs ≡ length found
+outputs_counted text kernel graph values found accepted ran =
+    let counted : length values ≡ length graph.names = ran.count ∙ sym (labels_counted kernel) ∙ sym (ap length (accepted_labels accepted).inputs) in
+    let valuation = values_exist graph (accepted_graph accepted) values counted in
+    let same = outputs-graph_of kernel graph values valuation.0 (kernels_are_well_formed text kernel accepted.reads) accepted.evaluated counted valuation.1 in
+    sym (ap length (ran.outputs ∙ same) ∙ length-map graph.outputs (λ (o : Output). valuation.0 o.vertex))
+
+-- ---- answers
+
+-- the answer where the file holds no values
+pub is_wrong : (text : List ℕ) (file : Option (Option (List ℕ))) (kernel : KernelParts) (graph : GraphParts) (bytes : List ℕ) (status : Status) (printed : List ℕ) (table : Option (List ℕ))
+    → status ≡ Values → printed ≡ values_fault_text → table ≡ None → IsNoValuesFile kernel bytes → IsAccepted text kernel graph → TellsFile file bytes
+    → Runs text file status printed table
+is_wrong text file kernel graph bytes status printed table is line none wrong accepted held =
+    let answer : IsWrongValues text file printed table = record {
+      kernel = kernel;
+      graph = graph;
+      accepted = accepted;
+      bytes = bytes;
+      held = held;
+      wrong = wrong;
+      line = line;
+      none = none;
+    } in
+    subst (λ s. Runs text file s printed table) (sym is) answer
+
+pub wrong_values : {E : Type 0} (r : Result Answer E) (kernel : KernelParts) (graph : GraphParts) (bytes : List ℕ)
+    → IfOk r (λ a. a.status ≡ Values) → IfOk r (λ a. a.text.items ≡ values_fault_text) → IfOk r (λ a. file_items a.table ≡ None) → IsNoValuesFile kernel bytes
+    → IfOk r (λ a. (text : List ℕ) (file : Option (Option (List ℕ))) → IsAccepted text kernel graph → TellsFile file bytes → Runs text file a.status a.text.items (file_items a.table))
+wrong_values (Ok a) kernel graph bytes is line none wrong = λ text file accepted held.
+    is_wrong text file kernel graph bytes a.status a.text.items (file_items a.table) is line none wrong accepted held
+wrong_values (Err e) kernel graph bytes is line none wrong = tt
+
+-- the answer where the file holds values
+is_valued : (text : List ℕ) (file : Option (Option (List ℕ))) (kernel : KernelParts) (graph : GraphParts) (bytes : List ℕ) (values found : List ℤ)
+    (status : Status) (printed : List ℕ) (table : Option (List ℕ))
+    → status ≡ Done → printed ≡ outputs_text (map (λ (o : Output). o.label) graph.outputs) found → table ≡ None → length bytes ≤ 1000000 → Spells bytes values → IsRun kernel values found
+    → IsAccepted text kernel graph → TellsFile file bytes → Runs text file status printed table
+is_valued text file kernel graph bytes values found status printed table is lines none short spelled ran accepted held =
+    let answer : IsValued text file printed table = record {
+      kernel = kernel;
+      graph = graph;
+      accepted = accepted;
+      bytes = bytes;
+      held = held;
+      values = values;
+      given = record { short = short; spelled = spelled; counted = ran.count ∙ sym (labels_counted kernel) };
+      lines = lines ∙ ap (λ ls. outputs_text ls found) (accepted_labels accepted).outputs ∙ ap (outputs_text (labels_of kinds.Output kernel.decls)) ran.outputs;
+      none = none;
+    } in
+    subst (λ s. Runs text file s printed table) (sym is) answer
+
+pub right_values : {E : Type 0} (r : Result Answer E) (kernel : KernelParts) (graph : GraphParts) (bytes : List ℕ) (values found : List ℤ)
+    → IfOk r (λ a. a.status ≡ Done) → IfOk r (λ a. a.text.items ≡ outputs_text (map (λ (o : Output). o.label) graph.outputs) found) → IfOk r (λ a. file_items a.table ≡ None)
+    → length bytes ≤ 1000000 → Spells bytes values → IsRun kernel values found
+    → IfOk r (λ a. (text : List ℕ) (file : Option (Option (List ℕ))) → IsAccepted text kernel graph → TellsFile file bytes → Runs text file a.status a.text.items (file_items a.table))
+right_values (Ok a) kernel graph bytes values found is lines none short spelled ran = λ text file accepted held.
+    is_valued text file kernel graph bytes values found a.status a.text.items (file_items a.table) is lines none short spelled ran accepted held
+right_values (Err e) kernel graph bytes values found is lines none short spelled ran = tt

@@ -1,0 +1,34 @@
+-- The report of a plan: eleven lines that each begin with a semicolon (this project's convention).
+use Rattle.std.specs.Prelude.{ℕ, Bool, true, false, List, [], ◌∷◌, codes}
+use Rattle.std.specs.Fmt.{decimal}
+use Rattle.plan_report.specs.declared.facts.Facts.{Facts}
+use Rattle.plan_report.specs.Lines.{line, ended}
+
+-- a semicolon, the name of a fact, and its value
+abbrev pub remark : List ℕ → List ℕ → List ℕ
+remark name value = line (codes ";") (name ∷ value ∷ [])
+
+-- the word of a verdict: whether the plan was shown to be optimal
+abbrev pub verdict_word : Bool → List ℕ
+verdict_word true = codes "Optimal"
+verdict_word false = codes "Open"
+
+-- the lines of a report
+abbrev pub report_lines : List ℕ → Facts → List (List ℕ)
+report_lines title f =
+    remark (codes "kernel") title
+    ∷ remark (codes "vertices") (decimal f.vertices)
+    ∷ remark (codes "inputs") (decimal f.inputs)
+    ∷ remark (codes "degree") (decimal f.degree)
+    ∷ remark (codes "slots") (decimal f.slots)
+    ∷ remark (codes "first") (decimal f.first)
+    ∷ remark (codes "cost") (decimal f.cost)
+    ∷ remark (codes "bound") (decimal f.bound)
+    ∷ remark (codes "expanded") (decimal f.expanded)
+    ∷ remark (codes "budget") (decimal f.budget)
+    ∷ remark (codes "verdict") (verdict_word f.optimal)
+    ∷ []
+
+-- the text of a report
+abbrev pub report_text : List ℕ → Facts → List ℕ
+report_text title f = ended (report_lines title f)

@@ -1,0 +1,80 @@
+//! The report of a plan.
+ghost use Rattle.std.specs.Prelude.{◌≡◌, ◌++◌, ◌∷◌, [], OnOk, IfOk};
+ghost use Rattle.std.specs.Fmt.{decimal};
+ghost use Rattle.plan_report.specs.ReportText.{remark, verdict_word, report_text};
+
+use comp_graph::{Label, NoMemory};
+use std::alloc::Global;
+
+/// What a report says of a plan. The costs and the bound count transfers between the fast and the slow memory.
+#[derive(Clone, Copy, Debug, PartialEq, Eq)]
+pub struct Facts {
+    /// The number of vertices of the graph.
+    pub vertices: u16,
+    /// How many of them are inputs.
+    pub inputs: u16,
+    /// The degree of the graph.
+    pub degree: u16,
+    /// The number of slots of the fast memory.
+    pub slots: u16,
+    /// The cost of the first plan.
+    pub first: u32,
+    /// The cost of the best plan that was found.
+    pub cost: u32,
+    /// The bound that was shown: no plan costs less.
+    pub bound: u32,
+    /// How many positions were expanded.
+    pub expanded: u32,
+    /// The most positions that were allowed to be expanded.
+    pub budget: u32,
+    /// Whether the cost was shown to be the least.
+    pub optimal: bool,
+}
+
+/// The report: eleven lines `; NAME VALUE`, each ended by a line feed, for the kernel's title and each fact, in the order `kernel`,
+/// `vertices`, `inputs`, `degree`, `slots`, `first`, `cost`, `bound`, `expanded`, `budget`, `verdict`. The verdict is `Optimal` or
+/// `Open`. [`NoMemory`] comes where memory was wanted and not found.
+pub fn report(alloc: Global, title: &Label, facts: &Facts) -> Result<Vec<u8>, NoMemory>
+    ensures { IfOk result (λ text. text.items ≡ report_text title.now facts.now) }
+{
+    let mut text = Vec::new(alloc);
+    add_remark(&mut text, "kernel", title.bytes())?;
+    add_number(alloc, &mut text, "vertices", u32::from(facts.vertices))?;
+    add_number(alloc, &mut text, "inputs", u32::from(facts.inputs))?;
+    add_number(alloc, &mut text, "degree", u32::from(facts.degree))?;
+    add_number(alloc, &mut text, "slots", u32::from(facts.slots))?;
+    add_number(alloc, &mut text, "first", facts.first)?;
+    add_number(alloc, &mut text, "cost", facts.cost)?;
+    add_number(alloc, &mut text, "bound", facts.bound)?;
+    add_number(alloc, &mut text, "expanded", facts.expanded)?;
+    add_number(alloc, &mut text, "budget", facts.budget)?;
+    add_remark(&mut text, "verdict", verdict_word(facts.optimal).as_bytes())?;
+    Ok(text)
+}
+
+// Adds the line of a fact whose value is a number.
+fn add_number(alloc: Global, text: &mut Vec<u8>, name: &str, number: u32) -> Result<(), NoMemory>
+    ensures { OnOk result (text.new.items ≡ text.old.items ++ (remark name.now (decimal number) ++ 10 ∷ [])) }
+{
+    let value = format!(in alloc; "{number}")?;
+    add_remark(text, name, value.as_bytes())
+}
+
+// Adds the line of a fact.
+fn add_remark(text: &mut Vec<u8>, name: &str, value: &[u8]) -> Result<(), NoMemory>
+    ensures { OnOk result (text.new.items ≡ text.old.items ++ (remark name.now value.now ++ 10 ∷ [])) }
+{
+    text.extend_from_slice(b"; ")?;
+    text.extend_from_slice(name.as_bytes())?;
+    text.extend_from_slice(b" ")?;
+    text.extend_from_slice(value)?;
+    text.extend_from_slice(b"\n")?;
+    Ok(())
+}
+
+// The word of a verdict.
+fn verdict_word(optimal: bool) -> &'static str
+    ensures { result.now ≡ verdict_word optimal }
+{
+    if optimal { "Optimal" } else { "Open" }
+}

@@ -1,0 +1,15 @@
+//! The texts that the program prints: the report of a plan, the values of a program's outputs, and a graph.
+//!
+//! Each text is a list of lines, each of words parted by one space and ended by a line feed. Numbers are plain decimal, with a `-` where
+//! they are negative. The texts are this project's convention; `specs/` says each as a whole.
+#![tactic(auto)]
+
+mod facts;
+mod graph;
+mod outputs;
+#[cfg(test)]
+mod tests;
+
+pub use facts::{Facts, report};
+pub use graph::graph_text;
+pub use outputs::outputs_text;

@@ -1,0 +1,6 @@
+pub mod GraphLowered
+pub mod KernelGraphLaws
+pub mod KernelLogs
+pub mod KernelRuns
+pub mod Pictured
+pub mod ElementsLeft

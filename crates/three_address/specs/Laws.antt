@@ -1,0 +1,39 @@
+-- Laws of the graph of a well-formed kernel, also of one with arrays and loops.
+use Rattle.std.specs.Prelude.{◌≡◌, ℕ, ℤ, List, length, map, Ok, Err}
+use Rattle.comp_graph.specs.Graphs.{GraphParts, IsGraph}
+use Rattle.scratch_machine.specs.Values.{AreValues, output_values}
+use Rattle.kernel_ast.specs.declared.tree.DeclKind.TheVariants as kinds
+use Rattle.kernel_ast.specs.declared.element.Fault.{Fault}
+use Rattle.kernel_ast.specs.KernelParts.{KernelParts}
+use Rattle.kernel_ast.specs.Labels.{labels_of}
+use Rattle.kernel_ast.specs.Walk.{walk_all}
+use Rattle.kernel_ast.specs.Meaning.{fault_of, shape_fault, outputs}
+use Rattle.kernel_ast.specs.KernelGraph.{graph_of}
+use Rattle.kernel_ast.specs.WellFormed.{IsWellFormed}
+
+-- the graph of a kernel is a graph: at most 256 nodes, inputs first, and each operand before its node
+abbrev pub GraphsAreGraphs : Type 0
+GraphsAreGraphs = (kernel : KernelParts) (graph : GraphParts) → IsWellFormed kernel → graph_of kernel ≡ Ok graph → IsGraph graph
+
+-- the graph has the kernel's title, and the labels of its input elements and of its output elements
+pub record IsLabelled (kernel : KernelParts) (graph : GraphParts) : Type 0 where
+  pub title : graph.title ≡ kernel.title
+  pub inputs : graph.names ≡ labels_of kinds.Input kernel.decls
+  pub outputs : map (λ o. o.label) graph.outputs ≡ labels_of kinds.Output kernel.decls
+
+-- the graph of a kernel keeps its title and its labels
+abbrev pub GraphsKeepTheLabels : Type 0
+GraphsKeepTheLabels = (kernel : KernelParts) (graph : GraphParts) → IsWellFormed kernel → graph_of kernel ≡ Ok graph → IsLabelled kernel graph
+
+-- on as many values as there are inputs, the kernel's outputs are the values of its graph's outputs
+abbrev pub GraphsHaveTheMeaning : Type 0
+GraphsHaveTheMeaning = (kernel : KernelParts) (graph : GraphParts) (values : List ℤ) (value : ℕ → ℤ) → IsWellFormed kernel → graph_of kernel ≡ Ok graph
+    → length values ≡ length graph.names → AreValues graph values value → outputs kernel values ≡ output_values graph value
+
+-- where a kernel's run has a fault, the graph has it, and else there is a graph
+abbrev pub GraphsHaveTheFaults : Type 0
+GraphsHaveTheFaults = (kernel : KernelParts) → fault_of (graph_of kernel) ≡ shape_fault kernel
+
+-- a fault of the walk is the first one
+abbrev pub WalksComeFirst : Type 0
+WalksComeFirst = (kernel : KernelParts) (fault : Fault) → walk_all kernel.decls kernel.body ≡ Err fault → graph_of kernel ≡ Err fault

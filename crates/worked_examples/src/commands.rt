@@ -1,0 +1,277 @@
+//! The commands `run`, `graph` and `plan` on one kernel each: what is printed, the status, and the file that is left.
+use crate::program::{run_on, run_with, words_of};
+use crate::texts::{check_fault, push_times};
+use desk_io::HonestDesk;
+use pebble_cli::{Status, file_word, pebble};
+use std::alloc::Global;
+use std::process::Abort;
+use std::test::Fail;
+
+/// The kernel y = x + 1, and one with a product of an input by itself.
+const P: &str = "kernel p { in x; out y; y = x + 1; }";
+
+const Q: &str = "kernel q { in x; out y; y = x*x; }";
+
+/// A kernel whose loop runs no turn.
+const NO_TURN: &str = "kernel a { in x; out y; y = x; for i in 3..3 { y = x + i; } }";
+
+const CHAIN: &str =
+    "kernel chain { in x; out y; tmp a; tmp b; tmp c; a = x+1; b = x+2; c = a*b; c = c*(x+3); c = c*a; y = c*b; }";
+
+/// One operation of each kind, on vertices and constants.
+const EACH: &str =
+    "kernel e { in x; out y; out z; tmp t; t = min(x, 1) & 2; t = max(t, x) | -x; y = mad(t, 3, x) ^ sel(x, t, 4); z = 2 - 7; }";
+
+/// Words, a kernel, the bytes of the file, and what comes of them.
+#[derive(Clone, Copy)]
+struct Row {
+    words: &'static str,
+    kernel: &'static str,
+    file: &'static str,
+    status: Status,
+    printed: &'static str,
+}
+
+const ROWS: [Row; 14] = [
+    Row {
+        words: "run v",
+        kernel: NO_TURN,
+        file: "5",
+        status: Status::Done,
+        printed: "y = 5\n",
+    },
+    Row {
+        words: "graph",
+        kernel: NO_TURN,
+        file: "old",
+        status: Status::Done,
+        printed: "vertices 1\ninputs 1\ndegree 0\n0 in x\nout y v0\n",
+    },
+    Row {
+        words: "graph",
+        kernel: Q,
+        file: "old",
+        status: Status::Done,
+        printed: "vertices 2\ninputs 1\ndegree 1\n0 in x\n1 mul v0 v0\nout y v1\n",
+    },
+    Row {
+        words: "graph",
+        kernel: EACH,
+        file: "old",
+        status: Status::Done,
+        printed: "vertices 10\ninputs 1\ndegree 2\n0 in x\n1 min v0 #1\n2 and v1 #2\n3 max v2 v0\n4 neg v0\n5 or v3 v4\n6 mad v5 #3 v0\n7 sel v0 v5 #4\n8 xor v6 v7\n9 set #-5\nout y v8\nout z v9\n",
+    },
+    Row {
+        words: "graph",
+        kernel: "kernel e { }",
+        file: "old",
+        status: Status::Done,
+        printed: "vertices 0\ninputs 0\ndegree 0\n",
+    },
+    Row {
+        words: "graph",
+        kernel: "kernel a { in A[2]; out B[1][2]; for i in 0..2 { B[0][1 - i] = A[i]; } }",
+        file: "old",
+        status: Status::Done,
+        printed: "vertices 2\ninputs 2\ndegree 0\n0 in A[0]\n1 in A[1]\nout B[0][0] v1\nout B[0][1] v0\n",
+    },
+    Row {
+        words: "run v",
+        kernel: CHAIN,
+        file: "1",
+        status: Status::Done,
+        printed: "y = 144\n",
+    },
+    Row {
+        words: "run v",
+        kernel: P,
+        file: "9223372036854775807",
+        status: Status::Done,
+        printed: "y = -9223372036854775808\n",
+    },
+    Row {
+        words: "run v",
+        kernel: P,
+        file: "1 2",
+        status: Status::Values,
+        printed: "values fault\n",
+    },
+    Row {
+        words: "run v",
+        kernel: P,
+        file: "",
+        status: Status::Values,
+        printed: "values fault\n",
+    },
+    Row {
+        words: "run v",
+        kernel: P,
+        file: "9223372036854775808",
+        status: Status::Values,
+        printed: "values fault\n",
+    },
+    Row {
+        words: "run v",
+        kernel: P,
+        file: "+1",
+        status: Status::Values,
+        printed: "values fault\n",
+    },
+    Row {
+        words: "run v",
+        kernel: P,
+        file: " \r\n\t-0 ",
+        status: Status::Done,
+        printed: "y = 1\n",
+    },
+    Row {
+        words: "run v",
+        kernel: "kernel e { }",
+        file: " ",
+        status: Status::Done,
+        printed: "",
+    },
+];
+
+#[test]
+fn commands_and_what_they_print(rt: HostRuntime) -> Result<(), Fail> {
+    for row in ROWS {
+        check_row(&rt, rt.alloc(), row)?;
+    }
+    Ok(())
+}
+
+// The words, the kernel and the file of a row give what the row says, and the file stays.
+fn check_row(rt: &impl Abort, alloc: Global, row: Row) -> Result<(), Fail> {
+    let left = run_with(alloc, row.words, row.kernel, row.file.as_bytes())?;
+    assert_eq!(rt; left.output.as_slice(), row.printed.as_bytes());
+    assert_eq!(rt; left.status, row.status);
+    let file = left.file.ok_or("no file")?;
+    assert_eq!(rt; file.as_slice(), row.file.as_bytes());
+    Ok(())
+}
+
+/// A text for each fault, with its code and its place; two texts are too long to stand here.
+const FAULTS: [(u8, usize, &str); 14] = [
+    (1, 11, "kernel a { ? }"),
+    (2, 22, "kernel a { out y; y = 9223372036854775808; }"),
+    (3, 16, "kernel a { in x out y; }"),
+    (4, 22, "kernel a { out y; y = z; }"),
+    (5, 21, "kernel a { in x; out x; }"),
+    (6, 28, "kernel a { in x; out y; y = x[0]; }"),
+    (7, 31, "kernel a { in A[3]; out y; y = A[3]; }"),
+    (8, 29, "kernel a { out y; tmp t; y = t; }"),
+    (9, 17, "kernel a { in x; x = 1; }"),
+    (10, 15, "kernel a { out y; }"),
+    (11, 27, "kernel a { in A[64][4]; in x; out y; y = x; }"),
+    (12, 38, "kernel a { out y; for i in 0..65536 { y = 1; } }"),
+    (14, 30, "kernel a { out y; for i in 0..1000001 { } }"),
+    (16, 16, "kernel a { in A[65]; out y; }"),
+];
+
+#[test]
+fn faults_of_each_command(rt: HostRuntime) -> Result<(), Fail> {
+    for (code, at, kernel) in FAULTS {
+        check_faults(&rt, rt.alloc(), code, at, kernel)?;
+    }
+    let mut deep = String::from_str(rt.alloc(), "kernel a { out y; y = ")?;
+    push_times(&mut deep, "(", 33)?;
+    deep.push_str("1")?;
+    push_times(&mut deep, ")", 33)?;
+    deep.push_str("; }")?;
+    check_faults(&rt, rt.alloc(), 13, 54, deep.as_str())?;
+    let mut long = String::new(rt.alloc());
+    push_times(&mut long, " ", 65537)?;
+    check_faults(&rt, rt.alloc(), 15, 65536, long.as_str())
+}
+
+// Each command answers the fault of the text, and leaves the file as it was.
+fn check_faults(
+    rt: &impl Abort,
+    alloc: Global,
+    code: u8,
+    at: usize,
+    kernel: &str,
+) -> Result<(), Fail> {
+    for words in ["plan 2 t 0", "run v", "graph"] {
+        check_fault(rt, alloc, run_with(alloc, words, kernel, b"old")?, code, at)?;
+    }
+    Ok(())
+}
+
+#[test]
+fn a_file_that_is_missing(rt: HostRuntime) -> Result<(), Fail> {
+    let words = words_of(rt.alloc(), "run v")?;
+    let fails = Vec::new(rt.alloc());
+    let left = run_on(rt.alloc(), &words, P.as_bytes(), None, 1, fails)?;
+    assert_eq!(rt; left.status, Status::ReadFault);
+    assert_eq!(rt; left.output.len(), 0);
+    assert!(rt; left.file.is_none());
+    // A fault of the kernel stands before the file.
+    let fails = Vec::new(rt.alloc());
+    let left = run_on(rt.alloc(), &words, b"kernel a { out y; }", None, 1, fails)?;
+    assert_eq!(rt; left.status, Status::Kernel);
+    // `graph` takes no file, and `plan` makes it.
+    let words = words_of(rt.alloc(), "graph")?;
+    let fails = Vec::new(rt.alloc());
+    let left = run_on(rt.alloc(), &words, P.as_bytes(), None, 1, fails)?;
+    assert_eq!(rt; left.status, Status::Done);
+    assert!(rt; left.file.is_none());
+    Ok(())
+}
+
+/// Words, a kernel, and the status over a desk on which no call fails, and whose file holds `5`.
+const HONEST: [(&str, &str, Status); 8] = [
+    ("plan 2 t 0", P, Status::Optimal),
+    ("plan 1 t 0", P, Status::TooSmall),
+    ("plan 3 t 0", CHAIN, Status::Open),
+    ("run v", CHAIN, Status::Done),
+    ("run v", "kernel e { }", Status::Values),
+    ("graph", EACH, Status::Done),
+    ("graph", "kernel a { out y; }", Status::Kernel),
+    ("run", P, Status::Usage),
+];
+
+#[test]
+fn desks_that_do_not_fail(rt: HostRuntime) -> Result<(), Fail> {
+    for (line, kernel, status) in HONEST {
+        check_honest(&rt, rt.alloc(), line, kernel, status)?;
+    }
+    Ok(())
+}
+
+// Over an honest desk the words and the kernel give this status.
+fn check_honest(
+    rt: &impl Abort,
+    alloc: Global,
+    line: &str,
+    kernel: &str,
+    status: Status,
+) -> Result<(), Fail> {
+    let words = words_of(alloc, line)?;
+    let mut desk = HonestDesk {
+        name: String::from_str(alloc, file_word(&words))?,
+        input: Vec::from_slice(alloc, kernel.as_bytes())?,
+        table: Vec::from_slice(alloc, b"5")?,
+        written: 0,
+    };
+    let bytes = line.len();
+    assert_eq!(rt;
+        pebble(alloc, &words, &mut desk),
+        status,
+        "words of {bytes} bytes"
+    );
+    Ok(())
+}
+
+#[test]
+fn the_plan_of_a_dot_product(rt: HostRuntime) -> Result<(), Fail> {
+    let kernel =
+        "kernel dot { in A[4]; in B[4]; out y; tmp s; s = A[0]*B[0]; for i in 1..4 { s = s + A[i]*B[i]; } y = s; }";
+    let left = run_with(rt.alloc(), "plan 4 t 0", kernel, b"old")?;
+    let report =
+        "; kernel dot\n; vertices 15\n; inputs 8\n; degree 2\n; slots 4\n; first 21\n; cost 21\n; bound 9\n; expanded 0\n; budget 0\n; verdict Open\nslots 4\n";
+    assert!(rt; str::from_utf8(left.output.as_slice())?.starts_with(report));
+    assert_eq!(rt; left.status, Status::Open);
+    Ok(())
+}
