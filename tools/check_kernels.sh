@@ -1,5 +1,5 @@
 #!/bin/sh
-# Plans each kernel of kernels/ with the least number of slots that it needs, prints its graph and runs it on some values, and checks the
+# Plans each kernel of kernels/ with three numbers of slots, prints its graph and runs it on some values, and checks the
 # report, the code, the table, the outputs, the graph and the exit statuses against tools/run_code.py, and docs/KERNELS.md against the
 # kernels. The exit status is 0 where all agrees, or where there is no python3 to check with. PEBBLE names another program than the one
 # at the top of the repository.
@@ -16,11 +16,13 @@ trap 'rm -rf "$folder"' EXIT
 
 python3 "$run_code" document "$here/docs/KERNELS.md" "$here"/kernels/*.kernel || result=1
 for kernel in "$here"/kernels/*.kernel; do
-    slots=$(python3 "$run_code" slots "$kernel") || { echo "$kernel: $slots"; result=1; continue; }
-    "$pebble" plan "$slots" "$folder/table" 0 <"$kernel" >"$folder/output"
-    status=$?
-    python3 "$run_code" check "$kernel" "$folder/output" "$folder/table" "$slots" "$status" || result=1
-    rm -f "$folder/table"
+    sizes=$(python3 "$run_code" slots "$kernel") || { echo "$kernel: $sizes"; result=1; continue; }
+    for slots in $sizes; do
+        "$pebble" plan "$slots" "$folder/table" 0 <"$kernel" >"$folder/output"
+        status=$?
+        python3 "$run_code" check "$kernel" "$folder/output" "$folder/table" "$slots" "$status" || result=1
+        rm -f "$folder/table"
+    done
     "$pebble" graph <"$kernel" >"$folder/output"
     python3 "$run_code" graph "$kernel" "$folder/output" "$?" || result=1
     for vector in 3 4 7; do

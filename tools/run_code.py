@@ -10,9 +10,9 @@
   run_code.py graph KERNEL OUTPUT STATUS
       checks what `pebble graph` printed of a kernel, and its exit status
   run_code.py slots KERNEL
-      prints the least number of slots that the kernel needs
+      prints three numbers of slots: the fewest that the kernel can do with, one more, and eight
   run_code.py facts KERNEL..
-      prints each kernel's row of the table of graphs in docs/KERNELS.md
+      prints each kernel's row of the table of graphs and plans in docs/KERNELS.md
   run_code.py document DOCUMENT KERNEL..
       checks that the document has each kernel's row, and that its rows of outputs are right
 
@@ -34,7 +34,7 @@ Loop = namedtuple('Loop', 'name first end body')
 Place = namedtuple('Place', 'name indices')
 Call = namedtuple('Call', 'word operands')                      # an operator is a call of its operation; a number is an int
 Trace = namedtuple('Trace', 'preds inputs outputs results lines')  # a graph, the numbers of the outputs, and the printed operations
-Facts = namedtuple('Facts', 'vertices inputs degree cost bound')
+Facts = namedtuple('Facts', 'vertices inputs degree bound')
 Code = namedtuple('Code', 'slots words inputs outputs instructions')
 
 RESERVED = set('kernel in out tmp for min max sel mad if else by'.split())
@@ -335,25 +335,58 @@ def trace_of(kernel, values=None):
     return Trace(run.preds, inputs, outputs, [number for number, _ in held], run.lines)
 
 
-def facts_of(kernel):
-    """The numbers that the report has to print, by their definitions."""
-    preds, inputs, outputs, _, _ = trace_of(kernel)
-    live = set(outputs)
-    for v in reversed(range(len(preds))):
+def live_of(trace):
+    """The vertices that are outputs, and those from which a path leads to one."""
+    live = set(trace.outputs)
+    for v in reversed(range(len(trace.preds))):
         if v in live:
-            live |= preds[v]
-    computed = [v for v in live if v >= inputs]
+            live |= trace.preds[v]
+    return live
+
+
+def facts_of(kernel):
+    """The numbers of a graph that the report has to print, by their definitions."""
+    trace = trace_of(kernel)
+    preds, inputs, live = trace.preds, trace.inputs, live_of(trace)
     read = {u for v in live for u in preds[v] if u < inputs}
     return Facts(
         vertices=len(preds),
         inputs=inputs,
         degree=max((len(preds[v]) for v in live), default=0),
-        cost=sum(len(preds[v]) + 1 for v in computed),
-        bound=len({v for v in outputs if v >= inputs}) + len(read))
+        bound=len({v for v in trace.outputs if v >= inputs}) + len(read))
 
 
-def verdict_of(facts):
-    return 'Optimal' if facts.cost == facts.bound else 'Open'
+def first_cost(kernel, slots):
+    """The cost of the first plan by the rules of docs/PLAN.md."""
+    trace = trace_of(kernel)
+    preds, outputs, never = trace.preds, set(trace.outputs), len(trace.preds)
+    ahead = sorted(v for v in live_of(trace) if v >= trace.inputs)
+    red, blue, cost = set(), set(range(trace.inputs)), 0
+    while ahead:
+        v = ahead.pop(0)
+
+        def next_use(u):
+            return min((w for w in ahead if u in preds[w]), default=never)
+
+        while len(red | preds[v] | {v}) > slots:
+            victim = max(red - preds[v], key=lambda u: (next_use(u), u))
+            red.remove(victim)
+            if victim not in blue and (next_use(victim) != never or victim in outputs):
+                blue.add(victim)
+                cost += 1
+        demand(preds[v] <= red | blue, f'an operand of vertex {v} is lost')
+        cost += len(preds[v] - red)
+        red |= preds[v] | {v}
+    demand(outputs <= red | blue, 'an output is lost')
+    return cost + len(outputs - blue)
+
+
+def slots_of(facts):
+    return facts.degree + 1, facts.degree + 2, 8
+
+
+def verdict_of(cost, bound):
+    return 'Optimal' if cost == bound else 'Open'
 
 
 # ---- scratch code
@@ -445,43 +478,43 @@ def input_vectors(count):
     return vectors
 
 
-def check_report(lines, kernel, facts, slots, status):
+def check_report(lines, kernel, facts, cost, slots, status):
     wanted = [
         ('kernel', kernel.name), ('vertices', facts.vertices), ('inputs', facts.inputs), ('degree', facts.degree),
-        ('slots', slots), ('first', facts.cost), ('cost', facts.cost), ('bound', facts.bound), ('expanded', 0),
-        ('budget', 0), ('verdict', verdict_of(facts))]
+        ('slots', slots), ('first', cost), ('cost', cost), ('bound', facts.bound), ('expanded', 0),
+        ('budget', 0), ('verdict', verdict_of(cost, facts.bound))]
     for line, (word, value) in zip(lines, wanted):
         demand(line == f'; {word} {value}', f'the report has "{line}" in place of "; {word} {value}"')
     demand(len(lines) == len(wanted), f'the report has {len(lines)} lines')
-    demand(status == (0 if verdict_of(facts) == 'Optimal' else 5), f'the exit status is {status}')
+    demand(status == (0 if cost == facts.bound else 5), f'the exit status is {status}')
 
 
-def check_code(code, kernel, facts, slots):
+def check_code(code, kernel, facts, cost, slots):
     demand(code.slots == slots, f'the code has {code.slots} slots')
     demand(code.inputs == elements_of(kernel, 'in'), 'the code has other inputs')
     demand([label for label, _ in code.outputs] == elements_of(kernel, 'out'), 'the code has other outputs')
     for vector in input_vectors(facts.inputs):
         outputs, transfers = run(code, vector)
         demand(outputs == trace_of(kernel, vector).results, f'other outputs on {vector}')
-        demand(transfers == facts.cost, f'{transfers} transfers where {facts.cost} are printed')
+        demand(transfers == cost, f'{transfers} transfers where {cost} are printed')
 
 
 def check(kernel_path, output_path, table_path, slots, status):
-    kernel = read_kernel(kernel_path)
-    facts = facts_of(kernel)
+    kernel, slots = read_kernel(kernel_path), int(slots)
+    facts, cost = facts_of(kernel), first_cost(kernel, slots)
     with open(output_path, encoding='utf-8', newline='') as file:
         text = file.read()
     demand(text.endswith('\n'), 'the output does not end with a line feed')
     lines = text[:-1].split('\n')
     report = [line for line in lines if line.startswith(';')]
     demand(lines[:len(report)] == report, 'the report does not stand first')
-    check_report(report, kernel, facts, int(slots), int(status))
-    check_code(read_code(lines[len(report):]), kernel, facts, int(slots))
+    check_report(report, kernel, facts, cost, slots, int(status))
+    check_code(read_code(lines[len(report):]), kernel, facts, cost, slots)
     with open(table_path, 'rb') as file:
         table = file.read()
-    wanted = b'RBPT' + struct.pack('>HHHII', 1, facts.vertices, int(slots), facts.bound, 0)
+    wanted = b'RBPT' + struct.pack('>HHHII', 1, facts.vertices, slots, facts.bound, 0)
     demand(table == wanted, f'the table is {table.hex()} in place of {wanted.hex()}')
-    print(f'{kernel.name}: {slots} slots, cost {facts.cost}, bound {facts.bound}, {verdict_of(facts)}: agrees')
+    print(f'{kernel.name}: {slots} slots, cost {cost}, bound {facts.bound}, {verdict_of(cost, facts.bound)}: agrees')
 
 
 def read_text(path):
@@ -509,8 +542,9 @@ def check_graph(kernel_path, output_path, status):
 
 def row_of(kernel):
     facts = facts_of(kernel)
-    numbers = [facts.vertices, facts.inputs, facts.degree, facts.degree + 1]
-    numbers += [facts.cost, facts.bound, verdict_of(facts)]
+    enough = next(slots for slots in range(facts.degree + 1, 65) if first_cost(kernel, slots) == facts.bound)
+    numbers = [facts.vertices, facts.inputs, facts.degree, facts.bound, facts.degree + 1]
+    numbers += [first_cost(kernel, slots) for slots in slots_of(facts)] + [enough]
     return f'| `{kernel.name}` | ' + ' | '.join(map(str, numbers)) + ' |'
 
 
@@ -542,7 +576,7 @@ def main(words):
         elif len(words) == 4 and words[0] == 'graph':
             check_graph(*words[1:])
         elif len(words) == 2 and words[0] == 'slots':
-            print(facts_of(read_kernel(words[1])).degree + 1)
+            print(*slots_of(facts_of(read_kernel(words[1]))))
         elif len(words) >= 2 and words[0] == 'facts':
             print('\n'.join(row_of(read_kernel(path)) for path in words[1:]))
         elif len(words) >= 3 and words[0] == 'document':

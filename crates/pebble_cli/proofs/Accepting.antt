@@ -1,5 +1,5 @@
 -- Each text is accepted in one way or has one fault, and what follows for the graph of an accepted text.
-use Rattle.std.proofs.Common.{◌≡◌, ◌⊎◌, ℕ, List, [], None, Some, Result, Ok, Err, refl, sym, ap, ◌∙◌, subst, inl, inr}
+use Rattle.std.proofs.Common.{◌≡◌, ◌⊎◌, ℕ, List, [], None, Some, Result, Ok, Err, refl, sym, ap, ◌∙◌, inl, inr}
 use Rattle.comp_graph.specs.Graphs.{GraphParts, IsGraph}
 use Rattle.kernel_ast.specs.declared.element.Fault.{Fault}
 use Rattle.kernel_ast.specs.KernelGraph.{graph_of}
@@ -20,7 +20,7 @@ use Rattle.loop_unroll.specs.declared.flat.ShapeEnd.TheVariants as shape
 use Rattle.loop_unroll.specs.Ends.{Answers, Walked}
 use Rattle.three_address.specs.Laws.{IsLabelled}
 use Rattle.three_address.proofs.KernelGraphLaws.{IsGraph-graph_of, IsLabelled-graph_of}
-use Rattle.pebble_cli.specs.Accepted.{IsAccepted, IsShapeFault, IsKernelFault, AcceptedOnce, OneKernelFault, NoFaultOfAccepted, AcceptedOrFault, EndMeans, end_of_text, end_of_shape}
+use Rattle.pebble_cli.specs.Accepted.{IsAccepted, IsKernelFault, AcceptedOnce, OneKernelFault, NoFaultOfAccepted, AcceptedOrFault, EndMeans, end_of_text, end_of_shape}
 
 -- ---- the fault of a run and the graph
 

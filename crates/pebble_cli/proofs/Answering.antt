@@ -1,10 +1,10 @@
 -- How the answers of the parts of the top call make the answer of a command.
-use Rattle.std.proofs.Common.{◌≡◌, ◌⊎◌, ◌<◌, ℕ, List, Option, None, Some, Result, Ok, Err, IfOk, IfErr, refl, sym, ap, ◌∙◌, subst, inl, inr}
+use Rattle.std.proofs.Common.{◌≡◌, ◌⊎◌, ℕ, List, Option, Some, Result, Ok, Err, IfOk, IfErr, refl, sym, ◌∙◌, subst, inl, inr}
 use Rattle.comp_graph.specs.Graphs.{GraphParts}
 use Rattle.desk_io.specs.declared.desk.Kind.{Kind}
-use Rattle.desk_io.specs.declared.desk.Kind.TheVariants.{TakeInput, TakeFile, PutOutput, PutFile, ClearFile}
+use Rattle.desk_io.specs.declared.desk.Kind.TheVariants.{TakeInput, TakeFile}
 use Rattle.desk_io.specs.Counts.{Rose}
-use Rattle.desk_io.specs.Known.{Tells, file_items, input_end}
+use Rattle.desk_io.specs.Known.{Tells, file_items}
 use Rattle.kernel_ast.specs.KernelParts.{KernelParts}
 use Rattle.pebble_cli.specs.declared.answer.Answer.{Answer}
 use Rattle.pebble_cli.specs.declared.status.Status.{Status}
@@ -12,7 +12,7 @@ use Rattle.pebble_cli.specs.declared.status.Status.TheVariants.{Kernel, ReadFaul
 use Rattle.pebble_cli.specs.declared.words.Command.{Command}
 use Rattle.pebble_cli.specs.declared.words.Command.TheVariants.{Plan, Run, Graph}
 use Rattle.pebble_cli.specs.Accepted.{IsAccepted}
-use Rattle.pebble_cli.specs.Answers.{Answers, Refuses, Plans, Faults, Runs, Draws, IsFaulty, HasAccepted, ReadCause, SameWriteFaults}
+use Rattle.pebble_cli.specs.Answers.{Answers, Refuses, Faults, Runs, IsFaulty, HasAccepted, ReadCause, SameWriteFaults}
 
 -- a fault of the text answers each command
 pub faulty_answers : (asked : Command) (text : List ℕ) (file : Option (Option (List ℕ))) (status : Status) (printed : List ℕ) (table : Option (List ℕ))

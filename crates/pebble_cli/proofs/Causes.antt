@@ -1,20 +1,13 @@
 -- What a status says of the command, the input and the table.
-use Rattle.std.proofs.Common.{◌≡◌, ◌≢◌, ◌⊎◌, ◌<◌, ◌≤◌, ℕ, ℤ, Bool, true, false, List, None, Some, refl, ap, sym, ◌∙◌, subst, inl, inr, arith}
+use Rattle.std.proofs.Common.{◌≡◌, ◌≢◌, ◌⊎◌, ℕ, Bool, true, false, List, None, Some, refl, sym, ◌∙◌, subst, inl, inr}
 use Rattle.std.specs.declared.option.Option.{Option}
-use Rattle.comp_graph.specs.Dags.{degree}
-use Rattle.comp_graph.specs.Graphs.{GraphParts, dag_of}
-use Rattle.desk_io.specs.Known.{TellsFile}
-use Rattle.kernel_ast.specs.KernelParts.{KernelParts}
 use Rattle.pebble_cli.specs.declared.status.Status.{Status}
 use Rattle.pebble_cli.specs.declared.status.Status.TheVariants.{Optimal, Done, Usage, Kernel, TooSmall, Open, ReadFault, WriteFault, NoMemory, Values}
 use Rattle.pebble_cli.specs.declared.words.Command.{Command}
 use Rattle.pebble_cli.specs.declared.words.Command.TheVariants.{Plan, Run, Graph}
-use Rattle.pebble_cli.specs.Accepted.{IsAccepted, IsKernelFault}
-use Rattle.pebble_cli.specs.PlanCode.{bound_of}
-use Rattle.pebble_cli.specs.PlanAnswers.{IsPlanned, game_parts, first_cost}
-use Rattle.pebble_cli.specs.RunAnswers.{IsValuesFile, IsNoValuesFile, IsValued, IsWrongValues, IsDrawn}
+use Rattle.pebble_cli.specs.PlanAnswers.{IsPlanned}
+use Rattle.pebble_cli.specs.RunAnswers.{IsValued, IsWrongValues, IsDrawn}
 use Rattle.pebble_cli.specs.Answers.{Answers, Refuses, Plans, Faults, Runs, Draws, IsUsage, IsFaulty, IsTooSmall, IsOfRead}
-use Rattle.pebble_cli.proofs.Accepting.{accepted_once, no_fault_of_accepted}
 
 -- ---- the kinds of answers
 

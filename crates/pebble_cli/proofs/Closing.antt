@@ -1,5 +1,5 @@
 -- What `run` and `graph` leave, as the top call says it.
-use Rattle.std.proofs.Common.{◌≡◌, ◌⊎◌, ℕ, List, None, Some, refl, subst, inl, inr}
+use Rattle.std.proofs.Common.{◌≡◌, ◌⊎◌, ℕ, List, None, Some, subst, inl, inr}
 use Rattle.std.specs.declared.option.Option.{Option}
 use Rattle.pebble_cli.specs.declared.status.Status.{Status}
 use Rattle.pebble_cli.specs.declared.status.Status.TheVariants.{Done, Values}

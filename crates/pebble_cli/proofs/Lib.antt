@@ -1,16 +1,10 @@
 pub mod Accepting
 pub mod Answering
+pub mod BoundCalls
 pub mod Causes
 pub mod Closing
 pub mod Cut
-pub mod Emitting
 pub mod GraphValues
-pub mod Placing
-pub mod PlanCalls
-pub mod PlanLists
-pub mod PlanNeat
-pub mod PlanPlain
-pub mod PlanRight
 pub mod Planning
 pub mod Replies
 pub mod Running

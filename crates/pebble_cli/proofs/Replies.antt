@@ -3,16 +3,14 @@ use Rattle.std.proofs.Common.{◌≡◌, ◌⊎◌, ◌<◌, ◌≤◌, ℕ, ℤ
 use Rattle.std.specs.declared.option.Option.{Option}
 use Rattle.comp_graph.specs.Dags.{degree}
 use Rattle.comp_graph.specs.Graphs.{GraphParts, dag_of}
-use Rattle.desk_io.specs.Known.{TellsFile}
 use Rattle.kernel_ast.specs.KernelParts.{KernelParts}
 use Rattle.pebble_cli.specs.declared.status.Status.{Status}
 use Rattle.pebble_cli.specs.declared.status.Status.TheVariants.{Optimal, Done, Kernel, TooSmall, Open, Values}
 use Rattle.pebble_cli.specs.declared.words.Command.{Command}
 use Rattle.pebble_cli.specs.declared.words.Command.TheVariants.{Plan, Run, Graph}
 use Rattle.pebble_cli.specs.Accepted.{IsAccepted, IsKernelFault}
-use Rattle.pebble_cli.specs.PlanCode.{bound_of}
-use Rattle.pebble_cli.specs.PlanAnswers.{IsPlanned, game_parts, first_cost}
-use Rattle.pebble_cli.specs.RunAnswers.{IsValuesFile, IsNoValuesFile, IsValued, IsWrongValues}
+use Rattle.pebble_cli.specs.PlanAnswers.{IsPlanned, game_parts, first_cost, bound_of}
+use Rattle.pebble_cli.specs.RunAnswers.{IsValuesFile, IsNoValuesFile}
 use Rattle.pebble_cli.specs.Answers.{Answers, Refuses, Plans, Faults, Runs, Draws, IsFaulty, IsTooSmall}
 use Rattle.pebble_cli.proofs.Accepting.{accepted_once, no_fault_of_accepted}
 

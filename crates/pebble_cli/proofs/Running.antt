@@ -1,5 +1,5 @@
 -- What `run` answers to the values of a file.
-use Rattle.std.proofs.Common.{◌≡◌, ◌≢◌, ◌≤◌, ◌<◌, ◌+◌, ℕ, zero, suc, ℤ, List, [], ◌∷◌, ◌++◌, length, map, Option, None, Some, Result, Ok, Err, IfOk, refl, sym, ap, ◌∙◌, subst, arith}
+use Rattle.std.proofs.Common.{◌≡◌, ◌≤◌, ◌<◌, ℕ, ℤ, List, [], ◌∷◌, ◌++◌, length, map, Option, None, Some, Result, Ok, Err, IfOk, sym, ap, ◌∙◌, subst, arith}
 use Rattle.std.proofs.lemmas.List.{length-append, length-map}
 use Rattle.comp_graph.specs.declared.node.Output.{Output}
 use Rattle.comp_graph.specs.Graphs.{GraphParts}
@@ -7,21 +7,19 @@ use Rattle.desk_io.specs.Known.{TellsFile, file_items}
 use Rattle.kernel_ast.specs.declared.tree.DeclKind.TheVariants as kinds
 use Rattle.kernel_ast.specs.KernelParts.{KernelParts}
 use Rattle.kernel_ast.specs.Labels.{labels_of}
-use Rattle.kernel_ast.specs.Meaning.{outputs}
 use Rattle.kernel_parser.proofs.OneText.{kernels_are_well_formed}
 use Rattle.plan_report.specs.OutputsText.{outputs_text}
-use Rattle.scratch_machine.specs.Values.{output_values}
 use Rattle.source_machine.specs.Inputs.{input_count}
 use Rattle.source_machine.specs.RunEnds.{IsRun, IsWrongCount}
 use Rattle.three_address.proofs.KernelGraphLaws.{length-labels_of, outputs-graph_of}
 use Rattle.values_text.specs.Numbers.{number_of}
-use Rattle.values_text.specs.Values.{BeginsWith, Spells}
+use Rattle.values_text.specs.Values.{Spells}
 use Rattle.pebble_cli.specs.declared.answer.Answer.{Answer}
 use Rattle.pebble_cli.specs.declared.status.Status.{Status}
 use Rattle.pebble_cli.specs.declared.status.Status.TheVariants.{Done, Values}
 use Rattle.pebble_cli.specs.Accepted.{IsAccepted}
 use Rattle.pebble_cli.specs.Answers.{Runs}
-use Rattle.pebble_cli.specs.RunAnswers.{IsValuesFile, IsNoValuesFile, IsValued, IsWrongValues, values_fault_text}
+use Rattle.pebble_cli.specs.RunAnswers.{IsNoValuesFile, IsValued, IsWrongValues, values_fault_text}
 use Rattle.pebble_cli.proofs.Accepting.{accepted_graph, accepted_labels}
 use Rattle.pebble_cli.proofs.GraphValues.{values_exist}
 

@@ -2,13 +2,8 @@ pub mod Accepted
 pub mod Answers
 pub mod CodeText
 pub mod Deliver
-pub mod Emitted
-pub mod Emitters
 pub mod GraphValues
-pub mod Neat
-pub mod PlainPlan
 pub mod PlanAnswers
-pub mod PlanCode
 pub mod RunAnswers
 pub mod Status
 pub mod TableBytes

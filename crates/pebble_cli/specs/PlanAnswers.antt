@@ -3,9 +3,14 @@
 use Rattle.std.specs.Prelude.{◌≡◌, ℕ, ℤ, ◌≤◌, ◌<◌, ◌↔◌, ◌==◌, Bool, true, false, List, ◌++◌, length, map, Option, Some, Ok}
 use Rattle.comp_graph.specs.Dags.{degree}
 use Rattle.comp_graph.specs.Graphs.{GraphParts, IsGraph, dag_of}
-use Rattle.comp_graph.specs.Games.{GameParts, game_on}
+use Rattle.comp_graph.specs.Games.{GameParts, game_on, game_of}
 use Rattle.pebble_rules.specs.declared.moves.Move.{Move}
+use Rattle.pebble_rules.specs.FirstBound.{first_bound}
 use Rattle.pebble_rules.specs.Rules.{start, IsComplete, cost as moves_cost}
+use Rattle.normal_steps.specs.Plans.{PlanParts}
+use Rattle.normal_steps.specs.Steps.{total_cost}
+use Rattle.first_plan.specs.FirstPlan.{first_steps}
+use Rattle.slot_alloc.specs.PlanCode.{plan_code}
 use Rattle.scratch_machine.specs.declared.code.OutWord.{OutWord}
 use Rattle.scratch_machine.specs.Codes.{CodeParts, IsCode}
 use Rattle.scratch_machine.specs.Machines.{Ending, run, transfers}
@@ -17,7 +22,6 @@ use Rattle.kernel_ast.specs.Meaning.{outputs as source_outputs}
 use Rattle.plan_report.specs.declared.facts.Facts.{Facts}
 use Rattle.plan_report.specs.ReportText.{report_text}
 use Rattle.pebble_cli.specs.Accepted.{IsAccepted}
-use Rattle.pebble_cli.specs.PlanCode.{moves_of, plain_code, plain_total, bound_of}
 use Rattle.pebble_cli.specs.CodeText.{code_text}
 use Rattle.pebble_cli.specs.TableBytes.{empty_table_bytes}
 
@@ -35,9 +39,17 @@ pub record Plan : Type 0 where
 abbrev pub game_parts : GraphParts → ℕ → GameParts
 game_parts graph slots = record { graph = graph; slots = slots }
 
--- what the plain plan of a graph with this many slots costs: the loads and stores among its moves
+-- what the first plan of a graph with this many slots costs, the finish counted
 abbrev pub first_cost : GraphParts → ℕ → ℕ
-first_cost graph slots = moves_cost (game_on graph slots) (moves_of (game_parts graph slots))
+first_cost graph slots = total_cost (game_on graph slots) (start (game_on graph slots)) (first_steps (game_on graph slots))
+
+-- the first plan of a game
+abbrev pub first_plan_of : GameParts → PlanParts
+first_plan_of game = record { game = game; steps = first_steps (game_of game); total = total_cost (game_of game) (start (game_of game)) (first_steps (game_of game)) }
+
+-- the number of outputs that are no inputs, which are stored, plus the number of inputs that a live vertex reads, which are loaded
+abbrev pub bound_of : GameParts → ℕ
+bound_of game = first_bound (game_of game)
 
 -- On these values of the inputs the run of the code meets no empty slot or word, gives the outputs of the source, and makes this many
 -- loads and stores.
@@ -56,10 +68,10 @@ pub record PlaysPebbling (graph : GraphParts) (slots : ℕ) (code : CodeParts) (
 
 -- The plan answers a kernel with this graph, with this many slots and this budget of positions.
 pub record IsAnswer (kernel : KernelParts) (graph : GraphParts) (slots budget : ℕ) (plan : Plan) : Type 0 where
-  -- the first plan is the plain plan, and the answered plan is the first one
+  -- the printed cost of the first plan is its cost, the answered plan is the first one, and the code is that of its steps
   pub first : plan.first ≡ first_cost graph slots
   pub cost : plan.cost ≡ plan.first
-  pub code : plan.code ≡ plain_code (game_parts graph slots)
+  pub code : plan.code ≡ plan_code (first_plan_of (game_parts graph slots))
   -- the bound counts the outputs that are no inputs and the inputs that a live vertex reads; no position is expanded
   pub bound : plan.bound ≡ bound_of (game_parts graph slots)
   pub expanded : plan.expanded ≡ 0
@@ -80,15 +92,15 @@ pub record IsAnswer (kernel : KernelParts) (graph : GraphParts) (slots budget : 
   -- no complete pebbling costs less than the bound, whatever it computes again, drops or moves in vain
   pub lowest : (moves : List Move) → IsComplete (game_on graph slots) (start (game_on graph slots)) moves → plan.bound ≤ moves_cost (game_on graph slots) moves
 
--- the plain plan as an answer, with no position expanded
-abbrev pub plain_plan : GameParts → Plan
-plain_plan game = record {
-  first = plain_total game;
-  cost = plain_total game;
+-- the first plan as an answer, with no position expanded
+abbrev pub first_answer : GameParts → Plan
+first_answer game = record {
+  first = (first_plan_of game).total;
+  cost = (first_plan_of game).total;
   bound = bound_of game;
   expanded = 0;
-  optimal = bound_of game == plain_total game;
-  code = plain_code game;
+  optimal = bound_of game == (first_plan_of game).total;
+  code = plan_code (first_plan_of game);
 }
 
 -- the values of the report's lines

@@ -1,10 +1,6 @@
-//! Laws of the texts that the program accepts, of graphs, and of the plain plan and its code. A call does nothing: its contract is the law.
+//! Laws of the texts that the program accepts, and of graphs. A call does nothing: its contract is the law.
 ghost use Rattle.pebble_cli.specs.Accepted.{AcceptedOnce, OneKernelFault, NoFaultOfAccepted, AcceptedOrFault};
 ghost use Rattle.pebble_cli.specs.GraphValues.{ValuesExist};
-
-pub use crate::plan::laws::{
-    emitted_code_plays, plain_code_is_right, plain_moves_are_neat, plain_plan_is_complete,
-};
 
 /// Each text has exactly one of two: it is accepted, with one kernel and one graph, or it has a fault, with one code and one place.
 pub fn accepted_or_fault()

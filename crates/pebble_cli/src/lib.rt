@@ -2,12 +2,10 @@
 #![tactic(auto)]
 
 mod answer;
+mod bound;
 mod deliver;
 mod kernel;
-#[cfg(test)]
-mod kernel_tests;
 pub mod laws;
-mod plan;
 mod status;
 mod table;
 mod texts;

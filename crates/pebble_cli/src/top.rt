@@ -17,8 +17,7 @@ ghost use Rattle.pebble_cli.specs.declared.words.Command.TheVariants.{Plan, Run,
 ghost use Rattle.pebble_cli.specs.Accepted.{IsAccepted, IsKernelFault};
 ghost use Rattle.pebble_cli.specs.Answers.{Answers, Plans, Runs, Draws, IsOfRead, ReadCause, SameWriteFaults, IsYielded, kernel_fault_text, too_small_text};
 ghost use Rattle.pebble_cli.specs.Deliver.{Delivered, CutShort};
-ghost use Rattle.pebble_cli.specs.PlanAnswers.{first_cost, game_parts};
-ghost use Rattle.pebble_cli.specs.PlanCode.{bound_of};
+ghost use Rattle.pebble_cli.specs.PlanAnswers.{first_cost, game_parts, bound_of};
 ghost use Rattle.pebble_cli.specs.RunAnswers.{IsValuesFile, IsNoValuesFile, values_fault_text};
 ghost use Rattle.pebble_cli.specs.Words.{command, file_word, IsInLimits};
 
@@ -147,7 +146,7 @@ pub fn pebble<D: Desk>(alloc: Global, words: &[String], desk: &mut D) -> Status
     // Then, and where more slots are needed, and for each other answer to an accepted kernel, the input was read to its end.
     ensures read_whole { IsOfRead result → D.input desk.new ≡ input_end (D.input desk.old) }
 
-    // Optimal comes exactly where the plain plan costs as much as the bound, Open exactly where it costs more. `headline` says when
+    // Optimal comes exactly where the first plan costs as much as the bound, Open exactly where it costs more. `headline` says when
     // they came; this is when they must.
     ensures optimal { (slots budget : ℕ) (text : List ℕ) (kernel : KernelParts) (graph : GraphParts) → command (map string_bytes words.now) ≡ Some (Plan slots budget)
         → D.input desk.old ≡ Some text → IsAccepted text kernel graph → degree (dag_of graph) < slots

@@ -264,14 +264,43 @@ fn check_honest(
     Ok(())
 }
 
+const DOT: &str =
+    "kernel dot { in A[4]; in B[4]; out y; tmp s; s = A[0]*B[0]; for i in 1..4 { s = s + A[i]*B[i]; } y = s; }";
+
+const MATRIX_VECTOR: &str =
+    "kernel mv { in A[4][4]; in x[4]; out y[4]; for i in 0..4 { y[i] = A[i][0]*x[0]; for j in 1..4 { y[i] = y[i] + A[i][j]*x[j]; } } }";
+
+/// Words and a kernel, the status, and the report with the first line of the code.
+const REPORTS: [(&str, &str, Status, &str); 3] = [
+    (
+        "plan 3 t 0",
+        DOT,
+        Status::Open,
+        "; kernel dot\n; vertices 15\n; inputs 8\n; degree 2\n; slots 3\n; first 15\n; cost 15\n; bound 9\n; expanded 0\n; budget 0\n; verdict Open\nslots 3\n",
+    ),
+    (
+        "plan 4 t 0",
+        DOT,
+        Status::Optimal,
+        "; kernel dot\n; vertices 15\n; inputs 8\n; degree 2\n; slots 4\n; first 9\n; cost 9\n; bound 9\n; expanded 0\n; budget 0\n; verdict Optimal\nslots 4\n",
+    ),
+    (
+        "plan 8 t 0",
+        MATRIX_VECTOR,
+        Status::Optimal,
+        "; kernel mv\n; vertices 48\n; inputs 20\n; degree 2\n; slots 8\n; first 24\n; cost 24\n; bound 24\n; expanded 0\n; budget 0\n; verdict Optimal\nslots 8\n",
+    ),
+];
+
 #[test]
-fn the_plan_of_a_dot_product(rt: HostRuntime) -> Result<(), Fail> {
-    let kernel =
-        "kernel dot { in A[4]; in B[4]; out y; tmp s; s = A[0]*B[0]; for i in 1..4 { s = s + A[i]*B[i]; } y = s; }";
-    let left = run_with(rt.alloc(), "plan 4 t 0", kernel, b"old")?;
-    let report =
-        "; kernel dot\n; vertices 15\n; inputs 8\n; degree 2\n; slots 4\n; first 21\n; cost 21\n; bound 9\n; expanded 0\n; budget 0\n; verdict Open\nslots 4\n";
-    assert!(rt; str::from_utf8(left.output.as_slice())?.starts_with(report));
-    assert_eq!(rt; left.status, Status::Open);
+fn reports_of_plans(rt: HostRuntime) -> Result<(), Fail> {
+    for (words, kernel, status, report) in REPORTS {
+        let left = run_with(rt.alloc(), words, kernel, b"old")?;
+        assert!(rt;
+            str::from_utf8(left.output.as_slice())?.starts_with(report),
+            "{words}"
+        );
+        assert_eq!(rt; left.status, status, "{words}");
+    }
     Ok(())
 }

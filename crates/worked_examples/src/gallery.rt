@@ -1,449 +1,88 @@
-//! The kernels with arrays and loops of the folder `kernels/`: their graphs, their plans and their outputs.
+//! The kernels of the folder `kernels/`: their graphs, their first plans with three numbers of slots, and their outputs, by the source and
+//! by the code.
+mod arrays;
+mod scalars;
+
 use crate::program::run_with;
+use comp_graph::{Game, Graph};
+use first_plan::first;
+use kernel_parser::parse;
+use loop_unroll::unroll;
 use pebble_cli::Status;
+use scratch_machine::{Code, exec};
+use slot_alloc::emit;
 use std::alloc::Global;
 use std::process::Abort;
 use std::test::Fail;
+use three_address::lower;
 
-/// A kernel, the values of its inputs, and what is known of it. The numbers and the outputs were worked out by hand and by a program that
-/// shares nothing with this one. The cost is that of the plain plan, with one slot more than the degree.
+/// A kernel and what is known of it. All of this was worked out by hand and by a program that shares nothing with this one.
 #[derive(Clone, Copy)]
-struct Known {
+pub struct Known {
     text: &'static str,
-    values: &'static str,
     vertices: u16,
     inputs: u16,
     degree: u16,
-    cost: u32,
     bound: u32,
+    /// With the fewest slots that the kernel can do with, with one slot more, and with eight.
+    costs: [Cost; 3],
+    /// On two lists of inputs; the numbers of the second wrap.
+    runs: [Run; 2],
+}
+
+/// The cost of the first plan with so many slots, in transfers.
+#[derive(Clone, Copy)]
+pub struct Cost {
+    slots: u16,
+    cost: u32,
+}
+
+/// The values of a kernel's inputs, in order of declaration, and what is printed of its outputs.
+#[derive(Clone, Copy)]
+pub struct Run {
+    inputs: &'static [i64],
     printed: &'static str,
 }
 
-const ALIGNMENT: &str =
-    "// The edit distance of two words of four letters, by dynamic programming over a table of five rows.
-// Shows a wavefront: each cell is read three times. Of n letters, with slots for a row of cells and a word traffic grows as n, and else as n*n.
-kernel alignment {
-  in a[4];
-  in b[4];
-  out y;
-  tmp d[5][5];
-  for i in 0..5 {
-    d[i][0] = i;
-    d[0][i] = i;
-  }
-  for i in 0..4 {
-    for j in 0..4 {
-      d[i + 1][j + 1] = min(min(d[i][j + 1], d[i + 1][j]) + 1, d[i][j] + sel(a[i] ^ b[j], 1, 0));
+#[test]
+fn kernels_with_arrays(rt: HostRuntime) -> Result<(), Fail> {
+    for known in arrays::ARRAYS {
+        check_kernel(&rt, rt.alloc(), known)?;
     }
-  }
-  y = d[4][4];
+    Ok(())
 }
-";
-
-const BITONIC_SORT: &str =
-    "// A bitonic network that sorts eight words: six rounds of four exchanges, each by min and max.
-// Shows a network of log(n)*(log(n) + 1)/2 rounds; without room for all words, each round moves most of them.
-kernel bitonic_sort {
-  in x[8];
-  out w[8];
-  tmp t;
-  for i in 0..8 {
-    w[i] = x[i];
-  }
-  for b in 0..4 {
-    t = min(w[2*b], w[2*b + 1]);
-    w[2*b + 1] = max(w[2*b], w[2*b + 1]);
-    w[2*b] = t;
-  }
-  for b in 0..2 {
-    for i in 0..2 {
-      t = min(w[4*b + i], w[4*b + 3 - i]);
-      w[4*b + 3 - i] = max(w[4*b + i], w[4*b + 3 - i]);
-      w[4*b + i] = t;
-    }
-  }
-  for b in 0..4 {
-    t = min(w[2*b], w[2*b + 1]);
-    w[2*b + 1] = max(w[2*b], w[2*b + 1]);
-    w[2*b] = t;
-  }
-  for i in 0..4 {
-    t = min(w[i], w[7 - i]);
-    w[7 - i] = max(w[i], w[7 - i]);
-    w[i] = t;
-  }
-  for b in 0..2 {
-    for i in 0..2 {
-      t = min(w[4*b + i], w[4*b + i + 2]);
-      w[4*b + i + 2] = max(w[4*b + i], w[4*b + i + 2]);
-      w[4*b + i] = t;
-    }
-  }
-  for b in 0..4 {
-    t = min(w[2*b], w[2*b + 1]);
-    w[2*b + 1] = max(w[2*b], w[2*b + 1]);
-    w[2*b] = t;
-  }
-}
-";
-
-const BUTTERFLY_8: &str =
-    "// The butterfly network of eight points, with sums and differences (the transform of Walsh and Hadamard).
-// Shows the graph of a fast transform. Of n points it needs about n*log(n) / log(S) transfers with S slots.
-kernel butterfly_8 {
-  in x[8];
-  out w[8];
-  tmp t;
-  for i in 0..8 {
-    w[i] = x[i];
-  }
-  for b in 0..4 {
-    t = w[2*b];
-    w[2*b] = t + w[2*b + 1];
-    w[2*b + 1] = t - w[2*b + 1];
-  }
-  for b in 0..2 {
-    for i in 0..2 {
-      t = w[4*b + i];
-      w[4*b + i] = t + w[4*b + i + 2];
-      w[4*b + i + 2] = t - w[4*b + i + 2];
-    }
-  }
-  for i in 0..4 {
-    t = w[i];
-    w[i] = t + w[i + 4];
-    w[i + 4] = t - w[i + 4];
-  }
-}
-";
-
-const CLAMP: &str = "// Four words, each brought into the range from low to high.
-// Shows calls in one another, and two inputs that every turn of a loop reads.
-kernel clamp {
-  in x[4];
-  in low;
-  in high;
-  out y[4];
-  for i in 0..4 {
-    y[i] = min(max(x[i], low), high);
-  }
-}
-";
-
-const DOT_PRODUCT: &str = "// The dot product of two vectors of four words.
-// Shows a loop whose number of turns is known, and an output that gathers a sum.
-kernel dot_product {
-  in a[4];
-  in b[4];
-  out y;
-  y = a[0] * b[0];
-  for i in 1..4 {
-    y = y + a[i] * b[i];
-  }
-}
-";
-
-const FIR: &str = "// A filter of three taps over eight words: y[i] is the sum of h[k] * x[i + k].
-// Shows a window that moves: with slots for the taps and the window, traffic grows with the number of words alone.
-kernel fir {
-  in x[8];
-  in h[3];
-  out y[6];
-  for i in 0..6 {
-    y[i] = h[0] * x[i];
-    for k in 1..3 {
-      y[i] = mad(h[k], x[i + k], y[i]);
-    }
-  }
-}
-";
-
-const JACOBI: &str =
-    "// Three steps of a stencil, each word the sum of its two neighbours, from one buffer into another and back.
-// Shows a temporary that is written anew in each step. Of n words and t steps, wide windows save traffic by a factor up to S.
-kernel jacobi {
-  in x[6];
-  out y[6];
-  tmp u[6];
-  for i in 0..6 {
-    u[i] = x[i];
-    y[i] = x[i];
-  }
-  for t in 0..3 {
-    for i in 1..5 {
-      y[i] = u[i - 1] + u[i + 1];
-    }
-    for i in 1..5 {
-      u[i] = y[i];
-    }
-  }
-}
-";
-
-const MATRIX_PRODUCT_2: &str = "// The product of two matrices of two rows and two columns.
-// Shows three loops in one another. Of n rows, n*n*n products need at least about n*n*n / sqrt(S) transfers with S slots.
-kernel matrix_product_2 {
-  in a[2][2];
-  in b[2][2];
-  out c[2][2];
-  for i in 0..2 {
-    for j in 0..2 {
-      c[i][j] = 0;
-      for k in 0..2 {
-        c[i][j] = mad(a[i][k], b[k][j], c[i][j]);
-      }
-    }
-  }
-}
-";
-
-const MATRIX_PRODUCT_3: &str = "// The product of two matrices of three rows and three columns.
-// Shows how traffic grows: each input is read three times, and of n rows n times, while there are only 2*n*n inputs.
-kernel matrix_product_3 {
-  in a[3][3];
-  in b[3][3];
-  out c[3][3];
-  for i in 0..3 {
-    for j in 0..3 {
-      c[i][j] = a[i][0] * b[0][j];
-      for k in 1..3 {
-        c[i][j] = c[i][j] + a[i][k] * b[k][j];
-      }
-    }
-  }
-}
-";
-
-const MATRIX_VECTOR: &str = "// The product of a matrix of four rows and four columns with a vector.
-// Shows an array of two dimensions, a loop in a loop, and a vector that is read once for each row.
-kernel matrix_vector {
-  in a[4][4]; // row by row
-  in x[4];
-  out y[4];
-  for i in 0..4 {
-    y[i] = a[i][0] * x[0];
-    for j in 1..4 {
-      y[i] = y[i] + a[i][j] * x[j];
-    }
-  }
-}
-";
-
-const POLYNOMIAL_PRODUCT: &str =
-    "// The product of two polynomials of four coefficients each, least power first.
-// Shows outputs that gather sums in turn: of n coefficients, n*n products from 2*n inputs.
-kernel polynomial_product {
-  in a[4];
-  in b[4];
-  out c[7];
-  for i in 0..7 {
-    c[i] = 0;
-  }
-  for i in 0..4 {
-    for j in 0..4 {
-      c[i + j] = mad(a[i], b[j], c[i + j]);
-    }
-  }
-}
-";
-
-const PREFIX_SUM: &str = "// The sums of the first one, two, .. eight words of a vector.
-// Shows outputs that are read again: each sum is made from the one before.
-kernel prefix_sum {
-  in x[8];
-  out s[8];
-  s[0] = x[0];
-  for i in 1..8 {
-    s[i] = s[i - 1] + x[i];
-  }
-}
-";
-
-const STENCIL: &str =
-    "// A stencil of three points with the weights 1, 2, 1; the two words at the ends are copied.
-// Shows a window that moves over a vector, so that most inputs are read three times.
-kernel stencil {
-  in x[8];
-  out y[8];
-  y[0] = x[0];
-  for i in 1..7 {
-    y[i] = x[i - 1] + 2 * x[i] + x[i + 1];
-  }
-  y[7] = x[7];
-}
-";
-
-const STENCIL_2D: &str =
-    "// A stencil of five points over a grid of five rows: four times a word, less its four neighbours.
-// Shows an array of two dimensions whose words are read up to five times. With slots for two rows each is loaded once.
-kernel stencil_2d {
-  in g[5][5];
-  out y[3][3];
-  for i in 0..3 {
-    for j in 0..3 {
-      y[i][j] = 4 * g[i + 1][j + 1] - g[i][j + 1] - g[i + 2][j + 1] - g[i + 1][j] - g[i + 1][j + 2];
-    }
-  }
-}
-";
-
-const GALLERY: [Known; 14] = [
-    Known {
-        text: ALIGNMENT,
-        values: "1 2 3 4 2 3 4 5",
-        vertices: 102,
-        inputs: 8,
-        degree: 2,
-        cost: 237,
-        bound: 9,
-        printed: "y = 2\n",
-    },
-    Known {
-        text: BITONIC_SORT,
-        values: "8 -3 5 1 7 2 9 0",
-        vertices: 56,
-        inputs: 8,
-        degree: 2,
-        cost: 144,
-        bound: 16,
-        printed: "w[0] = -3\nw[1] = 0\nw[2] = 1\nw[3] = 2\nw[4] = 5\nw[5] = 7\nw[6] = 8\nw[7] = 9\n",
-    },
-    Known {
-        text: BUTTERFLY_8,
-        values: "1 0 1 0 0 1 1 0",
-        vertices: 32,
-        inputs: 8,
-        degree: 2,
-        cost: 72,
-        bound: 16,
-        printed: "w[0] = 4\nw[1] = 2\nw[2] = 0\nw[3] = -2\nw[4] = 0\nw[5] = 2\nw[6] = 0\nw[7] = 2\n",
-    },
-    Known {
-        text: CLAMP,
-        values: "-5 0 5 100 0 10",
-        vertices: 14,
-        inputs: 6,
-        degree: 2,
-        cost: 24,
-        bound: 10,
-        printed: "y[0] = 0\ny[1] = 0\ny[2] = 5\ny[3] = 10\n",
-    },
-    Known {
-        text: DOT_PRODUCT,
-        values: "1 2 3 4 5 6 7 8",
-        vertices: 15,
-        inputs: 8,
-        degree: 2,
-        cost: 21,
-        bound: 9,
-        printed: "y = 70\n",
-    },
-    Known {
-        text: FIR,
-        values: "1 4 9 16 25 36 49 64 1 -2 1",
-        vertices: 29,
-        inputs: 11,
-        degree: 3,
-        cost: 66,
-        bound: 17,
-        printed: "y[0] = 2\ny[1] = 2\ny[2] = 2\ny[3] = 2\ny[4] = 2\ny[5] = 2\n",
-    },
-    Known {
-        text: JACOBI,
-        values: "1 2 3 4 5 6",
-        vertices: 18,
-        inputs: 6,
-        degree: 2,
-        cost: 36,
-        bound: 10,
-        printed: "y[0] = 1\ny[1] = 13\ny[2] = 23\ny[3] = 26\ny[4] = 22\ny[5] = 6\n",
-    },
-    Known {
-        text: MATRIX_PRODUCT_2,
-        values: "1 2 3 4 5 6 7 8",
-        vertices: 16,
-        inputs: 8,
-        degree: 3,
-        cost: 28,
-        bound: 12,
-        printed: "c[0][0] = 19\nc[0][1] = 22\nc[1][0] = 43\nc[1][1] = 50\n",
-    },
-    Known {
-        text: MATRIX_PRODUCT_3,
-        values: "1 2 3 4 5 6 7 8 9 9 8 7 6 5 4 3 2 1",
-        vertices: 63,
-        inputs: 18,
-        degree: 2,
-        cost: 135,
-        bound: 27,
-        printed: "c[0][0] = 30\nc[0][1] = 24\nc[0][2] = 18\nc[1][0] = 84\nc[1][1] = 69\nc[1][2] = 54\nc[2][0] = 138\nc[2][1] = 114\nc[2][2] = 90\n",
-    },
-    Known {
-        text: MATRIX_VECTOR,
-        values: "1 2 3 4 5 6 7 8 9 10 11 12 13 14 15 16 1 0 -1 2",
-        vertices: 48,
-        inputs: 20,
-        degree: 2,
-        cost: 84,
-        bound: 24,
-        printed: "y[0] = 6\ny[1] = 14\ny[2] = 22\ny[3] = 30\n",
-    },
-    Known {
-        text: POLYNOMIAL_PRODUCT,
-        values: "1 1 1 1 1 2 3 4",
-        vertices: 24,
-        inputs: 8,
-        degree: 3,
-        cost: 57,
-        bound: 15,
-        printed: "c[0] = 1\nc[1] = 3\nc[2] = 6\nc[3] = 10\nc[4] = 9\nc[5] = 7\nc[6] = 4\n",
-    },
-    Known {
-        text: PREFIX_SUM,
-        values: "1 2 3 4 5 6 7 8",
-        vertices: 15,
-        inputs: 8,
-        degree: 2,
-        cost: 21,
-        bound: 15,
-        printed: "s[0] = 1\ns[1] = 3\ns[2] = 6\ns[3] = 10\ns[4] = 15\ns[5] = 21\ns[6] = 28\ns[7] = 36\n",
-    },
-    Known {
-        text: STENCIL,
-        values: "1 2 4 8 16 32 64 128",
-        vertices: 26,
-        inputs: 8,
-        degree: 2,
-        cost: 48,
-        bound: 14,
-        printed: "y[0] = 1\ny[1] = 9\ny[2] = 18\ny[3] = 36\ny[4] = 72\ny[5] = 144\ny[6] = 288\ny[7] = 128\n",
-    },
-    Known {
-        text: STENCIL_2D,
-        values: "0 0 0 0 0 0 1 1 1 0 0 1 5 1 0 0 1 1 1 0 0 0 0 0 0",
-        vertices: 70,
-        inputs: 25,
-        degree: 2,
-        cost: 126,
-        bound: 30,
-        printed: "y[0][0] = 2\ny[0][1] = -3\ny[0][2] = 2\ny[1][0] = -3\ny[1][1] = 16\ny[1][2] = -3\ny[2][0] = 2\ny[2][1] = -3\ny[2][2] = 2\n",
-    },
-];
 
 #[test]
-fn kernels_of_the_gallery(rt: HostRuntime) -> Result<(), Fail> {
-    for known in GALLERY {
-        check_outputs(&rt, rt.alloc(), known)?;
-        check_graph(&rt, rt.alloc(), known)?;
-        check_plan(&rt, rt.alloc(), known)?;
+fn kernels_without_arrays(rt: HostRuntime) -> Result<(), Fail> {
+    for known in scalars::SCALARS {
+        check_kernel(&rt, rt.alloc(), known)?;
+    }
+    Ok(())
+}
+
+// All that is known of a kernel.
+fn check_kernel(rt: &impl Abort, alloc: Global, known: Known) -> Result<(), Fail> {
+    for run in known.runs {
+        check_outputs(rt, alloc, known.text, run)?;
+    }
+    check_graph(rt, alloc, known)?;
+    check_too_small(rt, alloc, known)?;
+    for cost in known.costs {
+        check_plan(rt, alloc, known, cost)?;
+        check_code(rt, alloc, known, cost)?;
     }
     Ok(())
 }
 
 // `run` prints the outputs.
-fn check_outputs(rt: &impl Abort, alloc: Global, known: Known) -> Result<(), Fail> {
-    let left = run_with(alloc, "run v", known.text, known.values.as_bytes())?;
-    assert_eq!(rt; left.output.as_slice(), known.printed.as_bytes());
+fn check_outputs(rt: &impl Abort, alloc: Global, text: &str, run: Run) -> Result<(), Fail> {
+    let mut values = String::new(alloc);
+    for value in run.inputs {
+        let number = format!(in alloc; "{value} ")?;
+        values.push_str(number.as_str())?;
+    }
+    let left = run_with(alloc, "run v", text, values.as_str().as_bytes())?;
+    assert_eq!(rt; left.output.as_slice(), run.printed.as_bytes());
     assert_eq!(rt; left.status, Status::Done);
     Ok(())
 }
@@ -464,18 +103,27 @@ fn check_graph(rt: &impl Abort, alloc: Global, known: Known) -> Result<(), Fail>
     Ok(())
 }
 
-// `plan` with the fewest slots prints this cost and this bound, and with one slot less it prints how many are wanted.
-fn check_plan(rt: &impl Abort, alloc: Global, known: Known) -> Result<(), Fail> {
-    let Known {
-        degree,
-        cost,
-        bound,
-        ..
-    } = known;
-    let slots = degree.saturating_add(1);
+// With as many slots as the degree `plan` prints how many are wanted.
+fn check_too_small(rt: &impl Abort, alloc: Global, known: Known) -> Result<(), Fail> {
+    let degree = known.degree;
+    let words = format!(in alloc; "plan {degree} t 0")?;
+    let left = run_with(alloc, words.as_str(), known.text, b"old")?;
+    let needs = degree.saturating_add(1);
+    let line = format!(in alloc; "too small needs {needs}\n")?;
+    assert_eq!(rt; left.output.as_slice(), line.as_bytes());
+    assert_eq!(rt; left.status, Status::TooSmall);
+    Ok(())
+}
+
+// `plan` with these slots prints this cost and the bound, and is Optimal where they are equal.
+fn check_plan(rt: &impl Abort, alloc: Global, known: Known, wanted: Cost) -> Result<(), Fail> {
+    let Cost { slots, cost } = wanted;
+    let bound = known.bound;
     let words = format!(in alloc; "plan {slots} t 0")?;
     let left = run_with(alloc, words.as_str(), known.text, b"old")?;
-    let lines = format!(in alloc; "\n; first {cost}\n; cost {cost}\n; bound {bound}\n")?;
+    let lines = format!(in alloc;
+        "\n; slots {slots}\n; first {cost}\n; cost {cost}\n; bound {bound}\n"
+    )?;
     let output = str::from_utf8(left.output.as_slice())?;
     assert!(rt; output.contains(lines.as_str()), "cost {cost}");
     let status = if cost == bound {
@@ -484,10 +132,42 @@ fn check_plan(rt: &impl Abort, alloc: Global, known: Known) -> Result<(), Fail> 
         Status::Open
     };
     assert_eq!(rt; left.status, status);
-    let words = format!(in alloc; "plan {degree} t 0")?;
-    let left = run_with(alloc, words.as_str(), known.text, b"old")?;
-    let line = format!(in alloc; "too small needs {slots}\n")?;
-    assert_eq!(rt; left.output.as_slice(), line.as_bytes());
-    assert_eq!(rt; left.status, Status::TooSmall);
+    Ok(())
+}
+
+// The code of the first plan with these slots prints what the source prints, with as many transfers as the plan costs.
+fn check_code(rt: &impl Abort, alloc: Global, known: Known, wanted: Cost) -> Result<(), Fail> {
+    assert!(rt; 0 < wanted.slots && wanted.slots <= 64);
+    let graph = graph_of(alloc, known.text)?;
+    let game = Game::new(graph, wanted.slots).ok().ok_or("too few slots")?;
+    let plan = first(alloc, &game)?;
+    assert_eq!(rt; plan.total(), wanted.cost);
+    let code = emit(alloc, &plan)?;
+    for run in known.runs {
+        check_run(rt, alloc, &code, run, wanted.cost)?;
+    }
+    Ok(())
+}
+
+// The graph of a kernel's text.
+fn graph_of(alloc: Global, text: &str) -> Result<Graph, Fail> {
+    let kernel = parse(alloc, text.as_bytes())?;
+    let flats = unroll(alloc, &kernel)?;
+    Ok(lower(alloc, &kernel, &flats)?)
+}
+
+// A run of the code gives the outputs, and takes as many transfers as the plan costs.
+fn check_run(rt: &impl Abort, alloc: Global, code: &Code, run: Run, cost: u32) -> Result<(), Fail> {
+    assert!(rt; code.instructions().len() < 1000 && code.outputs().len() < 1000);
+    assert!(rt; run.inputs.len() < 1000);
+    let ran = exec(alloc, code, run.inputs)?;
+    let mut printed = String::new(alloc);
+    for (output, value) in code.outputs().iter().zip(ran.outputs.as_slice()) {
+        let label = str::from_utf8(output.label.bytes())?;
+        let line = format!(in alloc; "{label} = {value}\n")?;
+        printed.push_str(line.as_str())?;
+    }
+    assert_eq!(rt; printed.as_str(), run.printed);
+    assert_eq!(rt; ran.transfers, cost);
     Ok(())
 }

@@ -29,7 +29,7 @@ struct Row {
     table: &'static [u8],
 }
 
-const ROWS: [Row; 7] = [
+const ROWS: [Row; 11] = [
     Row {
         words: "plan 2 t 0",
         kernel: P,
@@ -61,9 +61,37 @@ const ROWS: [Row; 7] = [
     Row {
         words: "plan 2 t 0",
         kernel: "kernel s { in x; out y; tmp t; t = x + 1; y = t * 3; }",
-        status: Status::Open,
-        printed: "; kernel s\n; vertices 3\n; inputs 1\n; degree 1\n; slots 2\n; first 4\n; cost 4\n; bound 2\n; expanded 0\n; budget 0\n; verdict Open\nslots 2\nwords 3\nin x\nout y 2\nload 0 0\nadd 1 s0 #1\nstore 1 1\nload 0 1\nmul 1 s0 #3\nstore 1 2\nend\n",
+        status: Status::Optimal,
+        printed: "; kernel s\n; vertices 3\n; inputs 1\n; degree 1\n; slots 2\n; first 2\n; cost 2\n; bound 2\n; expanded 0\n; budget 0\n; verdict Optimal\nslots 2\nwords 2\nin x\nout y 1\nload 0 0\nadd 1 s0 #1\nmul 0 s1 #3\nstore 0 1\nend\n",
         table: &[82, 66, 80, 84, 0, 1, 0, 3, 0, 2, 0, 0, 0, 2, 0, 0, 0, 0],
+    },
+    Row {
+        words: "plan 3 t 0",
+        kernel: "kernel chain { in x; out y; tmp a; tmp b; tmp c; a = x+1; b = x+2; c = a*b; c = c*(x+3); c = c*a; y = c*b; }",
+        status: Status::Open,
+        printed: "; kernel chain\n; vertices 8\n; inputs 1\n; degree 2\n; slots 3\n; first 7\n; cost 7\n; bound 2\n; expanded 0\n; budget 0\n; verdict Open\nslots 3\nwords 4\nin x\nout y 3\nload 0 0\nadd 1 s0 #1\nadd 2 s0 #2\nmul 0 s1 s2\nstore 2 1\nstore 1 2\nload 1 0\nadd 2 s1 #3\nmul 1 s0 s2\nload 0 2\nmul 2 s1 s0\nload 0 1\nmul 1 s2 s0\nstore 1 3\nend\n",
+        table: &[82, 66, 80, 84, 0, 1, 0, 8, 0, 3, 0, 0, 0, 2, 0, 0, 0, 0],
+    },
+    Row {
+        words: "plan 4 t 0",
+        kernel: "kernel chain { in x; out y; tmp a; tmp b; tmp c; a = x+1; b = x+2; c = a*b; c = c*(x+3); c = c*a; y = c*b; }",
+        status: Status::Open,
+        printed: "; kernel chain\n; vertices 8\n; inputs 1\n; degree 2\n; slots 4\n; first 4\n; cost 4\n; bound 2\n; expanded 0\n; budget 0\n; verdict Open\nslots 4\nwords 3\nin x\nout y 2\nload 0 0\nadd 1 s0 #1\nadd 2 s0 #2\nmul 3 s1 s2\nstore 2 1\nadd 2 s0 #3\nmul 0 s3 s2\nmul 2 s0 s1\nload 0 1\nmul 3 s2 s0\nstore 3 2\nend\n",
+        table: &[82, 66, 80, 84, 0, 1, 0, 8, 0, 4, 0, 0, 0, 2, 0, 0, 0, 0],
+    },
+    Row {
+        words: "plan 3 t 0",
+        kernel: "kernel knot { in x; out y; tmp a; tmp b; tmp c; a = x+1; b = x*2; c = a*b; c = c*a; y = c*b; }",
+        status: Status::Open,
+        printed: "; kernel knot\n; vertices 6\n; inputs 1\n; degree 2\n; slots 3\n; first 4\n; cost 4\n; bound 2\n; expanded 0\n; budget 0\n; verdict Open\nslots 3\nwords 3\nin x\nout y 2\nload 0 0\nadd 1 s0 #1\nmul 2 s0 #2\nmul 0 s1 s2\nstore 2 1\nmul 2 s0 s1\nload 0 1\nmul 1 s2 s0\nstore 1 2\nend\n",
+        table: &[82, 66, 80, 84, 0, 1, 0, 6, 0, 3, 0, 0, 0, 2, 0, 0, 0, 0],
+    },
+    Row {
+        words: "plan 2 t 0",
+        kernel: "kernel sums { in x; out y; out z; y = x + 1; z = x + 2; }",
+        status: Status::Optimal,
+        printed: "; kernel sums\n; vertices 3\n; inputs 1\n; degree 1\n; slots 2\n; first 3\n; cost 3\n; bound 3\n; expanded 0\n; budget 0\n; verdict Optimal\nslots 2\nwords 3\nin x\nout y 1\nout z 2\nload 0 0\nadd 1 s0 #1\nstore 1 1\nadd 1 s0 #2\nstore 1 2\nend\n",
+        table: &[82, 66, 80, 84, 0, 1, 0, 3, 0, 2, 0, 0, 0, 3, 0, 0, 0, 0],
     },
     Row {
         words: "plan 1 t 0",
@@ -243,7 +271,7 @@ fn padded(alloc: Global, len: usize) -> Result<String, AllocError> {
 fn the_limits_of_a_kernel(rt: HostRuntime) -> Result<(), TestFail> {
     let words = words_of(rt.alloc(), "plan 2 t 0")?;
     let rows = [
-        (sums(rt.alloc(), 255)?, Status::Open),
+        (sums(rt.alloc(), 255)?, Status::Optimal),
         (sums(rt.alloc(), 256)?, Status::Kernel),
         (padded(rt.alloc(), 65536)?, Status::Optimal),
         (padded(rt.alloc(), 65537)?, Status::Kernel),

@@ -5,19 +5,21 @@ ghost use Rattle.desk_io.specs.Known.{file_items};
 ghost use Rattle.kernel_ast.specs.KernelParts.{KernelParts};
 ghost use Rattle.pebble_cli.specs.Accepted.{IsAccepted, IsKernelFault};
 ghost use Rattle.pebble_cli.specs.Answers.{IsUsage, IsFaulty, Plans, Refuses, too_small_text, verdict_status};
-ghost use Rattle.pebble_cli.specs.PlanAnswers.{facts_of, plain_plan};
-ghost use Rattle.pebble_cli.specs.PlanCode as spec;
+ghost use Rattle.pebble_cli.specs.PlanAnswers.{facts_of, first_answer, first_plan_of};
 ghost use Rattle.plan_report.specs.ReportText.{report_text};
+ghost use Rattle.slot_alloc.specs.PlanCode.{plan_code};
 ghost use Rattle.pebble_cli.specs.CodeText.{code_text};
 
 use super::Answer;
-use crate::plan::code::plain_code;
-use crate::plan::cost::{first_bound, plain_cost};
+use crate::bound::first_bound;
 use crate::status::Status;
 use crate::table::empty_table;
 use crate::texts::code::write_code;
-use comp_graph::{Game, Graph, NoMemory, TooSmall};
+use comp_graph::{Game, Graph, Label, NoMemory, TooSmall};
+use first_plan::first;
+use normal_steps::Plan;
 use plan_report::{Facts, report};
+use slot_alloc::emit;
 use std::alloc::{AllocError, Global};
 
 const USAGE: &str =
@@ -73,13 +75,14 @@ fn status_of(optimal: bool) -> Status
     }
 }
 
-// The values of the report's lines for the plain plan, with no position expanded.
-fn facts_of_plan(game: &Game, budget: u32) -> Facts
-    ensures value { result ≡ facts_of game.now.graph game.now.slots budget (plain_plan game.now) }
+// The values of the report's lines for the first plan of a game, with no position expanded.
+fn facts_of_plan<'g>(game: &Game, plan: &Plan<'g>, budget: u32) -> Facts
+    requires first { plan.now ≡ first_plan_of game.now }
+    ensures value { result ≡ facts_of game.now.graph game.now.slots budget (first_answer game.now) }
     ensures valid { IsGame game.now }
 {
     let graph = game.graph();
-    let cost = plain_cost(game);
+    let cost = plan.total();
     let bound = first_bound(game);
     Facts {
         vertices: graph.len(),
@@ -95,13 +98,18 @@ fn facts_of_plan(game: &Game, budget: u32) -> Facts
     }
 }
 
-// The report and the code of the plain plan.
-fn plan_text(alloc: Global, game: &Game, facts: &Facts) -> Result<Vec<u8>, NoMemory>
-    ensures { IfOk result (λ text. text.items ≡ report_text game.now.graph.title facts.now ++ code_text (spec.plain_code game.now)) }
+// The report and the code of a plan.
+fn plan_text<'g>(
+    alloc: Global,
+    title: &Label,
+    plan: &Plan<'g>,
+    facts: &Facts,
+) -> Result<Vec<u8>, NoMemory>
+    ensures { IfOk result (λ text. text.items ≡ report_text title.now facts.now ++ code_text (plan_code plan.now)) }
 {
-    let code = plain_code(alloc, game)?;
+    let code = emit(alloc, plan)?;
     let code_text = write_code(alloc, &code)?;
-    let mut text = report(alloc, game.graph().title(), facts)?;
+    let mut text = report(alloc, title, facts)?;
     text.extend_from_slice(&code_text)?;
     Ok(text)
 }
@@ -112,8 +120,9 @@ fn planned(alloc: Global, game: &Game, budget: u32) -> Result<Answer, NoMemory>
     ensures { IfOk result (λ answer. (text : List ℕ) (kernel : KernelParts) → IsAccepted text kernel game.now.graph
         → Plans game.now.slots budget text answer.status answer.text.items (file_items answer.table)) }
 {
-    let facts = facts_of_plan(game, budget);
-    let text = plan_text(alloc, game, &facts)?;
+    let plan = first(alloc, game)?;
+    let facts = facts_of_plan(game, &plan, budget);
+    let text = plan_text(alloc, game.graph().title(), &plan, &facts)?;
     let table = empty_table(alloc, facts.vertices, facts.slots, facts.bound)?;
     Ok(Answer {
         status: status_of(facts.optimal),

@@ -1,8 +1,7 @@
 -- The answer of a command to the input.
-use Rattle.std.proofs.Common.{Err, ap, subst}
-use Rattle.desk_io.specs.Known.{Tells, file_items}
-use Rattle.pebble_cli.proofs.Answering.{faulty_answers, told_answers, refusal_behind, same_writes}
-use Rattle.pebble_cli.proofs.Causes.{fault_is_not_of_read}
+use Rattle.std.proofs.Common.{Err, ap}
+use Rattle.desk_io.specs.Known.{file_items}
+use Rattle.pebble_cli.proofs.Answering.{faulty_answers}
 use Rattle.pebble_cli.proofs.Told.{told_more, too_long}
 use Rattle.pebble_cli.proofs.top.answer_kernel.Goals as goal
 

@@ -1,9 +1,8 @@
 -- The answer of each command.
 use Rattle.std.proofs.Common.{subst, inr}
 use Rattle.desk_io.specs.Known.{file_items}
-use Rattle.pebble_cli.specs.declared.words.Command.TheVariants.{Plan, Run, Graph}
+use Rattle.pebble_cli.specs.declared.words.Command.TheVariants.{Plan, Graph}
 use Rattle.pebble_cli.specs.Accepted.{EndMeans}
-use Rattle.pebble_cli.specs.Answers.{Draws}
 use Rattle.pebble_cli.proofs.Answering.{faulty_answers, answers_by, ran_answers, ran_refusal}
 use Rattle.pebble_cli.proofs.top.command_answer.Goals as goal
 

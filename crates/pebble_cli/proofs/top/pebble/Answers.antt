@@ -1,6 +1,6 @@
-use Rattle.std.proofs.Common.{◌∙◌, ◌⊎◌, inl, inr, subst}
+use Rattle.std.proofs.Common.{◌∙◌, inl, inr}
 use Rattle.desk_io.specs.Known.{file_items}
-use Rattle.pebble_cli.proofs.Causes.{no_table, verdict_of_plan, faulty_text, too_small_text_of, wrong_values_of, done_by}
+use Rattle.pebble_cli.proofs.Causes.{no_table, verdict_of_plan, faulty_text, too_small_text_of}
 use Rattle.pebble_cli.proofs.Closing.{done_is, values_is}
 use Rattle.pebble_cli.proofs.Replies.{answers_at, answer_to_faulty, answer_to_small, answer_to_room, answer_to_tight, answer_to_loose, answer_to_wrong_values, answer_to_values, answer_to_draw, not_without_file}
 use Rattle.pebble_cli.proofs.Cut.{cut_rose, told_is}

@@ -1,6 +1,0 @@
--- As many labels as the index says are copied.
-use Rattle.std.proofs.Common.{◌≡◌, take}
-use Rattle.pebble_cli.proofs.plan.emit.copied.Given as goal
-
-abbrev pub invariant-loop-label : goal.invariant-loop-label
-invariant-loop-label l = l.copies.items ≡ take l.label-index l.labels

@@ -1,0 +1,31 @@
+-- The moves of a plan are a complete pebbling that places no pebble where one of its colour stands, and its code plays them.
+use Rattle.std.proofs.Common.{ap, ◌∙◌, subst}
+use Rattle.std.proofs.lemmas.Result.{IfOk-weaker}
+use Rattle.comp_graph.specs.Games.{IsGame}
+use Rattle.slot_alloc.proofs.Right.{complete_at, neat_at, plays_at}
+use Rattle.slot_alloc.proofs.code.emit.Goals as goal
+
+pub code_of_moves-requires-clause-complete : goal.code_of_moves-requires-clause-complete
+code_of_moves-requires-clause-complete c =
+    complete_at c.args.plan.now (subst IsGame c.game-game.ensures.value c.graph.ensures.valid) c.game-game.ensures.valid c.graph.result.now c.slots.result c.deref.result.now
+    (c.graph.ensures.value ∙ ap (λ g. g.graph) c.game-game.ensures.value)
+    (c.slots.ensures.value ∙ ap (λ g. g.slots) c.game-game.ensures.value)
+    (c.deref.ensures.value ∙ c.in_ok-moves.ensures)
+
+pub code_of_moves-requires-clause-neat : goal.code_of_moves-requires-clause-neat
+code_of_moves-requires-clause-neat c =
+    neat_at c.args.plan.now (subst IsGame c.game-game.ensures.value c.graph.ensures.valid) c.game-game.ensures.valid c.graph.result.now c.slots.result c.deref.result.now
+    (c.graph.ensures.value ∙ ap (λ g. g.graph) c.game-game.ensures.value)
+    (c.slots.ensures.value ∙ ap (λ g. g.slots) c.game-game.ensures.value)
+    (c.deref.ensures.value ∙ c.in_ok-moves.ensures)
+
+pub returns-clause-plays : goal.returns-clause-plays
+returns-clause-plays c =
+    IfOk-weaker c.code_of_moves.result _ _
+    (λ code made.
+    plays_at c.args.plan.now (subst IsGame c.game-game.ensures.value c.graph.ensures.valid) c.game-game.ensures.valid c.graph.result.now c.slots.result c.deref.result.now
+    (c.graph.ensures.value ∙ ap (λ g. g.graph) c.game-game.ensures.value)
+    (c.slots.ensures.value ∙ ap (λ g. g.slots) c.game-game.ensures.value)
+    (c.deref.ensures.value ∙ c.in_ok-moves.ensures)
+    code made)
+    c.code_of_moves.ensures
