@@ -1,10 +1,10 @@
 -- What the calls do, one step at a time.
-use Rattle.std.proofs.Common.{◌≡◌, ℕ, zero, suc, ◌+◌, ◌≤◌, ◌<◌, ◌⊎◌, inl, inr, Bool, true, false, not, ◌&&◌, ◌||◌, ltb, cond, List, [], ◌∷◌, ◌++◌, length, get_or, refl, sym, ap, ◌∙◌, subst, arith, append-nil, append_assoc}
+use Rattle.std.proofs.Common.{◌≡◌, ℕ, suc, ◌+◌, ◌<◌, ◌⊎◌, inl, inr, Bool, true, false, not, ◌&&◌, ◌||◌, ltb, cond, List, [], ◌∷◌, ◌++◌, length, get_or, refl, sym, ap, ◌∙◌, subst, arith, append-nil, append_assoc}
 use Rattle.std.proofs.lemmas.Bool.Decides.{nat_tests}
 use Rattle.std.specs.Option.{IfNone, IsSome}
 use Rattle.std.specs.Prelude.{Option, Some, None}
 use Rattle.std.specs.FinSet as set
-use Rattle.comp_graph.specs.Vertices.{Vertices, ◌∈◌, ◌∉◌, AllBelow, size, set_below}
+use Rattle.comp_graph.specs.Vertices.{Vertices, ◌∈◌, AllBelow, size, set_below}
 use Rattle.comp_graph.specs.Sets.{membership}
 use Rattle.comp_graph.specs.Dags.{Dag, IsDag, degree, live_of}
 use Rattle.comp_graph.specs.Graphs.{GraphParts, dag_of}

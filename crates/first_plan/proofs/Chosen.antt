@@ -1,15 +1,14 @@
 -- Of the members of a set, the one that is needed last.
-use Rattle.std.proofs.Common.{◌≡◌, ℕ, zero, suc, ◌+◌, ◌≤◌, ◌<◌, ◌⊎◌, inl, inr, Bool, true, false, not, ◌&&◌, eqb, leb, cond, refl, sym, ap, ◌∙◌, subst, arith}
+use Rattle.std.proofs.Common.{◌≡◌, ℕ, ◌+◌, ◌≤◌, ◌<◌, ◌⊎◌, inl, inr, Bool, true, false, ◌&&◌, eqb, cond, refl, sym, ap, ◌∙◌, subst, arith}
 use Rattle.std.proofs.lemmas.Bool.Decides.{nat_tests}
 use Rattle.std.specs.FinSet as set
 use Rattle.comp_graph.specs.Vertices.{Vertices, ◌∈◌, ◌∉◌, AllBelow, greatest_below}
 use Rattle.comp_graph.specs.Dags.{Dag}
 use Rattle.comp_graph.proofs.DagLaws.{greatest_below_at, greatest_below_some}
-use Rattle.first_plan.specs.Passing.{greatest_passing}
 use Rattle.first_plan.specs.NextUses.{next_use}
 use Rattle.first_plan.specs.Victims.{furthest_use, last_needed, IsLastNeeded}
 use Rattle.first_plan.specs.Laws.{LastNeededIsLast}
-use Rattle.first_plan.proofs.Passing.{IsGreatestBelow, greatest_passing-is, greatest_passing-by}
+use Rattle.first_plan.proofs.Passing.{greatest_passing-is}
 
 -- the value of a member, and 0 for another number
 abbrev pub value : Dag → ℕ → Vertices → ℕ → ℕ

@@ -1,20 +1,19 @@
 -- What the steps of the first plan cost, and which vertices they work on.
-use Rattle.std.proofs.Common.{◌≡◌, ℕ, zero, suc, ◌+◌, ◌*◌, ◌≤◌, ◌<◌, ◌⊎◌, inl, inr, Bool, true, false, ◌&&◌, ltb, cond, List, [], ◌∷◌, ◌++◌, refl, sym, ap, ◌∙◌, subst, arith, append-nil}
+use Rattle.std.proofs.Common.{◌≡◌, ℕ, zero, suc, ◌+◌, ◌*◌, ◌≤◌, ◌<◌, inl, inr, Bool, true, false, ◌&&◌, ltb, cond, List, [], ◌∷◌, ◌++◌, refl, sym, ap, ◌∙◌, subst, arith, append-nil}
 use Rattle.std.proofs.lemmas.Bool.Decides.{nat_tests}
 use Rattle.std.proofs.lemmas.List.Quantifiers.{all_pairs_push}
 use Rattle.std.specs.List.{AllPairs}
 use Rattle.std.specs.FinSet as set
-use Rattle.comp_graph.specs.Vertices.{Vertices, ◌∈◌, AllBelow, size, rising}
+use Rattle.comp_graph.specs.Vertices.{Vertices, size, rising}
 use Rattle.comp_graph.specs.Sets.{has_set_below}
-use Rattle.comp_graph.specs.Dags.{Dag, IsDag, degree}
-use Rattle.comp_graph.specs.Graphs.{dag_of}
+use Rattle.comp_graph.specs.Dags.{Dag, IsDag}
 use Rattle.comp_graph.specs.Games.{PebbleGame, GameParts, game_of, IsGame}
-use Rattle.comp_graph.proofs.Sets.{size_within, size_le_below, difference_first}
+use Rattle.comp_graph.proofs.Sets.{size_le_below, difference_first}
 use Rattle.comp_graph.proofs.Rising.{All-rising}
 use Rattle.comp_graph.proofs.GraphLaws.{IsDag-dag_of}
 use Rattle.pebble_rules.specs.Rules.{start}
 use Rattle.pebble_rules.specs.declared.position.Position.{Position}
-use Rattle.normal_steps.specs.Steps.{stepped, step_cost, play_after, play_cost, finish_cost, total_cost, work_vertices}
+use Rattle.normal_steps.specs.Steps.{stepped, step_cost, play_after, play_cost, finish_cost, work_vertices}
 use Rattle.normal_steps.specs.Plans.{IsNoPlan}
 use Rattle.normal_steps.specs.declared.step.Step.{Step}
 use Rattle.normal_steps.specs.declared.step.Step.TheVariants.{Work, Drop, Spill}
@@ -24,8 +23,7 @@ use Rattle.first_plan.specs.Victims.{is_missed, removal_of, removal, victim}
 use Rattle.first_plan.specs.FirstPlan.{is_short, removals, room_steps, turn_steps, steps_below, first_steps}
 use Rattle.first_plan.specs.Ready.{IsReady}
 use Rattle.first_plan.specs.Laws.{WorksInOrder, WorksOnce}
-use Rattle.first_plan.proofs.NextUses.{wanted_vertex}
-use Rattle.first_plan.proofs.Turns.{AreUnderWay, steps_are_under_way, first_plan_finishes}
+use Rattle.first_plan.proofs.Turns.{steps_are_under_way, first_plan_finishes}
 
 -- ---- the vertices that the steps work on
 

@@ -1,13 +1,13 @@
 -- Next uses: what they are, and how the calls find them.
-use Rattle.std.proofs.Common.{◌≡◌, ℕ, zero, suc, ◌+◌, ◌≤◌, ◌<◌, ◌⊎◌, inl, inr, Bool, true, false, not, ◌&&◌, ltb, cond, refl, sym, ap, ◌∙◌, subst, arith}
+use Rattle.std.proofs.Common.{◌≡◌, ℕ, ◌≤◌, ◌<◌, ◌⊎◌, inl, inr, Bool, true, false, ◌&&◌, ltb, refl, sym, ap, ◌∙◌, arith}
 use Rattle.std.proofs.lemmas.Bool.Decides.{nat_tests}
 use Rattle.std.specs.FinSet as set
-use Rattle.comp_graph.specs.Vertices.{Vertices, ◌∈◌, ◌∉◌, set_below, AllBelow, IsLeast}
+use Rattle.comp_graph.specs.Vertices.{Vertices, ◌∈◌, ◌∉◌, AllBelow, IsLeast}
 use Rattle.comp_graph.specs.Sets.{membership, has_set_below}
 use Rattle.comp_graph.specs.Dags.{Dag, IsDag, is_live, live_of}
 use Rattle.comp_graph.proofs.DagLaws.{live_vertex}
 use Rattle.comp_graph.proofs.Live.{has_live_of}
-use Rattle.first_plan.specs.Passing.{least_from, least_passing}
+use Rattle.first_plan.specs.Passing.{least_passing}
 use Rattle.first_plan.specs.NextUses.{is_wanted, wanted_of, is_later_use, next_use}
 use Rattle.first_plan.specs.Ready.{readers_of, AreAhead}
 use Rattle.first_plan.specs.Laws.{IsNextUse, NextUseIsNext, NextUsesExist}

@@ -1,6 +1,6 @@
 -- The least and the greatest of some numbers that pass a test.
-use Rattle.std.proofs.Common.{◌≡◌, ℕ, zero, suc, ◌+◌, ◌≤◌, ◌<◌, ◌⊎◌, inl, inr, Bool, true, false, cond, refl, sym, ap, ◌∙◌, subst, arith}
-use Rattle.first_plan.specs.Passing.{least_from, least_passing, greatest_passing}
+use Rattle.std.proofs.Common.{◌≡◌, ℕ, zero, suc, ◌+◌, ◌≤◌, ◌<◌, ◌⊎◌, inl, inr, Bool, true, false, cond, refl, sym, ap, ◌∙◌, arith}
+use Rattle.first_plan.specs.Passing.{least_from, greatest_passing}
 
 not_both : (b : Bool) → b ≡ true → b ≡ false → ⊥
 not_both b t f = let both : true ≡ false = sym t ∙ f in cc

@@ -1,24 +1,23 @@
 -- The turns of the first plan: each step is legal where it stands, and before each turn the position is ready for it.
-use Rattle.std.proofs.Common.{◌≡◌, ℕ, zero, suc, ◌+◌, ◌-◌, ◌*◌, ◌≤◌, ◌<◌, ◌⊎◌, inl, inr, Bool, true, false, not, ◌&&◌, ◌||◌, ltb, cond, List, [], ◌∷◌, ◌++◌, refl, sym, ap, ◌∙◌, subst, arith, append-nil}
+use Rattle.std.proofs.Common.{◌≡◌, ℕ, zero, suc, ◌+◌, ◌≤◌, ◌<◌, ◌⊎◌, inl, inr, Bool, true, false, not, ◌&&◌, ◌||◌, ltb, cond, List, [], ◌∷◌, ◌++◌, refl, sym, ap, ◌∙◌, subst, arith, append-nil}
 use Rattle.std.proofs.lemmas.Bool.Decides.{nat_tests}
 use Rattle.std.specs.FinSet as set
-use Rattle.comp_graph.specs.Vertices.{Vertices, ◌∈◌, ◌∉◌, IsWithin, AllBelow, size}
+use Rattle.comp_graph.specs.Vertices.{Vertices, ◌∈◌, ◌∉◌, AllBelow, size}
 use Rattle.comp_graph.specs.Sets.{membership}
 use Rattle.comp_graph.specs.Dags.{Dag, IsDag, is_live, degree}
 use Rattle.comp_graph.specs.Games.{PebbleGame}
-use Rattle.comp_graph.proofs.Sets.{size_within, size_insert_le, size_remove, size_union_le, size_of_member, member_outside, insert_cases, in_insert, in_insert_same, difference_first, difference_second}
-use Rattle.comp_graph.proofs.DagLaws.{live_vertex, live_output, live_before, degree_bounds}
+use Rattle.comp_graph.proofs.Sets.{size_insert_le, size_remove, size_union_le, member_outside, difference_first, difference_second}
+use Rattle.comp_graph.proofs.DagLaws.{live_output, live_before, degree_bounds}
 use Rattle.pebble_rules.specs.Rules.{start}
 use Rattle.pebble_rules.specs.declared.position.Position.{Position}
-use Rattle.normal_steps.specs.Steps.{worked, CanWork, CanDrop, CanSpill, IsStep, stepped, IsPlay, play_after, CanFinish, IsFinishing}
-use Rattle.normal_steps.specs.Sound.{IsSound}
+use Rattle.normal_steps.specs.Steps.{worked, CanWork, CanDrop, IsStep, stepped, IsPlay, play_after}
 use Rattle.normal_steps.specs.declared.step.Step.{Step}
 use Rattle.normal_steps.specs.declared.step.Step.TheVariants.{Work, Drop, Spill}
 use Rattle.normal_steps.proofs.Sound.{start_is_sound, step_sound, in_remove}
 use Rattle.normal_steps.proofs.Simulation.{append_play, append_after}
 use Rattle.first_plan.specs.NextUses.{is_wanted, is_used_later, next_use}
-use Rattle.first_plan.specs.Victims.{last_needed, IsLastNeeded, victim, is_missed, removal_of, removal}
-use Rattle.first_plan.specs.FirstPlan.{is_short, removals, room_steps, turn_steps, steps_below, first_steps}
+use Rattle.first_plan.specs.Victims.{IsLastNeeded, victim, is_missed, removal_of, removal}
+use Rattle.first_plan.specs.FirstPlan.{is_short, removals, room_steps, turn_steps, steps_below}
 use Rattle.first_plan.specs.Ready.{IsReadFrom, IsReady}
 use Rattle.first_plan.specs.Laws.{FirstPlanFinishes}
 use Rattle.first_plan.proofs.NextUses.{wanted_live, wanted_no_input, not_wanted, wanted_vertex, next_use_before}

@@ -3,6 +3,8 @@
 
 pub mod laws;
 pub mod planning;
+#[cfg(test)]
+mod tests;
 mod uses;
 mod victims;
 

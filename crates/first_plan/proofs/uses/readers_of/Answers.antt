@@ -1,5 +1,5 @@
 -- A reader is one more member, and another vertex is none.
-use Rattle.std.proofs.Common.{◌≡◌, length, sym, ap, ◌∙◌, arith}
+use Rattle.std.proofs.Common.{◌≡◌, length, ap, ◌∙◌, arith}
 use Rattle.std.specs.FinSet.{contains}
 use Rattle.comp_graph.specs.Vertices.{set_below}
 use Rattle.comp_graph.specs.Graphs.{dag_of}
