@@ -1,5 +1,5 @@
 #!/bin/sh
-# Measures the program on the largest kernels: one of 256 vertices, and one of 65,536 bytes. Prints the mean time of a run and,
+# Measures the program on the largest kernels: of 256 vertices, of 65,536 bytes, and of 65,533 turns. Prints the mean time of a run and,
 # where /usr/bin/time tells it, the most memory of one. It checks nothing and is no part of the gate. PEBBLE names another program.
 here=$(CDPATH= cd -- "$(dirname -- "$0")/.." && pwd) || exit 1
 pebble=${PEBBLE:-$here/pebble}
@@ -29,25 +29,39 @@ most_bytes() {
     awk -v missing=$((65536 - $(wc -c <"$folder/short"))) 'BEGIN { for (k = 0; k < missing; k++) print "" }'
 }
 
-# Runs the program on a kernel and prints what it took.
+# 256 vertices in 127 turns, and as many turns of a loop over constants as there may be: 65,533 in all.
+most_turns() {
+    echo 'kernel most_turns { in x; out y; tmp t; tmp c; t = x; for i in 0..127 { t = t * 3 + 1; } y = t + 1;'
+    echo 'c = 0; for j in 0..10750 { c = c + 1; } }'
+}
+
+# Runs the program with these words on the kernel, named first, and prints what it took.
 measure() {
-    "$pebble" plan 64 "$folder/table" 0 <"$folder/kernel" >"$folder/output"
+    name=$1
+    shift
+    "$pebble" "$@" <"$folder/kernel" >"$folder/output"
     status=$?
     begin=$(date +%s%N)
     run=0
     while [ "$run" -lt "$runs" ]; do
-        "$pebble" plan 64 "$folder/table" 0 <"$folder/kernel" >/dev/null
+        "$pebble" "$@" <"$folder/kernel" >/dev/null
         run=$((run + 1))
     done
     end=$(date +%s%N)
-    printf '%s: %s bytes, %s, status %s: %s microseconds a run (mean of %s)\n' "$1" "$(wc -c <"$folder/kernel")" \
-        "$(sed -n 's/^; \(vertices .*\)/\1/p' "$folder/output")" "$status" "$(((end - begin) / runs / 1000))" "$runs"
+    printf '%s, %s: %s bytes, status %s: %s microseconds a run (mean of %s)\n' "$name" "$1" "$(wc -c <"$folder/kernel")" "$status" \
+        "$(((end - begin) / runs / 1000))" "$runs"
     if [ -x /usr/bin/time ]; then
-        /usr/bin/time -v "$pebble" plan 64 "$folder/table" 0 <"$folder/kernel" 2>&1 >/dev/null | sed -n 's/^\tMaximum/  maximum/p'
+        /usr/bin/time -v "$pebble" "$@" <"$folder/kernel" 2>&1 >/dev/null | sed -n 's/^\tMaximum/  maximum/p'
     fi
 }
 
+echo 5 >"$folder/values"
 most_vertices >"$folder/kernel"
-measure most_vertices
+measure most_vertices plan 64 "$folder/table" 0
+measure most_vertices plan 3 "$folder/table" 0
 most_bytes >"$folder/kernel"
-measure most_bytes
+measure most_bytes plan 64 "$folder/table" 0
+most_turns >"$folder/kernel"
+measure most_turns run "$folder/values"
+measure most_turns graph
+measure most_turns plan 3 "$folder/table" 0
