@@ -18,10 +18,12 @@ use Rattle.kernel_ast.specs.declared.tree.Expr.{Expr, roll-Expr}
 use Rattle.kernel_ast.specs.declared.tree.Expr.TheOpen as expr
 use Rattle.kernel_ast.specs.declared.tree.Link.{roll-Link}
 use Rattle.kernel_ast.specs.declared.tree.Stmt.{Stmt, roll-Stmt}
-use Rattle.kernel_ast.specs.declared.tree.Stmt.TheOpen.{Assign, Loop}
+use Rattle.kernel_ast.specs.declared.tree.Relation.{Relation}
+use Rattle.kernel_ast.specs.declared.tree.Relation.TheVariants.{Equal, Less}
+use Rattle.kernel_ast.specs.declared.tree.Stmt.TheOpen.{Assign, Loop, Branch}
 use Rattle.kernel_ast.specs.KernelParts.{KernelParts, Declared}
 use Rattle.kernel_ast.specs.Steps.{numbers}
-use Rattle.kernel_ast.specs.Places.{fault, bounds}
+use Rattle.kernel_ast.specs.Places.{fault, loop_numbers, condition}
 use Rattle.kernel_ast.specs.Walk.{walk, one_turn}
 use Rattle.kernel_ast.specs.Machine.{assign, one_pass, cells_of_decl}
 use Rattle.kernel_ast.specs.Meaning.{shape_fault, outputs}
@@ -63,7 +65,15 @@ set p e = roll-Stmt (Assign p e 80)
 
 -- a loop, at 90
 abbrev repeat : Index → Index → List Stmt → Stmt
-repeat from to body = roll-Stmt (Loop from to body 90)
+repeat from to body = roll-Stmt (Loop from to None body 90)
+
+-- a loop with a step, at 90
+abbrev repeat_by : Index → Index → Index → List Stmt → Stmt
+repeat_by from to by body = roll-Stmt (Loop from to (Some by) body 90)
+
+-- a branch, at 95
+abbrev branch : Index → Relation → Index → List Stmt → List Stmt → Stmt
+branch left rel right taken other = roll-Stmt (Branch left rel right taken other 95)
 
 -- a kernel of the title `k`
 abbrev kernel : List Declared → List Stmt → KernelParts
@@ -104,8 +114,28 @@ pub total_graph : graph_of total ≡ Ok (record {
   names = codes "a[0]" ∷ codes "a[1]" ∷ [];
   outputs = record { label = codes "s"; vertex = 3 } ∷ [];
 })
-unfolding assign cells_of_decl labels_of_decl bounds numbers one_turn one_pass digits
+unfolding assign cells_of_decl labels_of_decl loop_numbers numbers one_turn one_pass digits
 total_graph = simp trees refl
+
+-- in a[4]; out y; y = 0; for i in 0 .. 4 by 2 { y = y + a[i]; }
+abbrev every_other : KernelParts
+every_other = kernel (declared (codes "a") Input (4 ∷ []) 1 ∷ declared (codes "y") Output [] 2 ∷ [])
+    (set (element 1 [] 3) (constant (pos 0))
+    ∷ repeat_by (number (pos 0)) (number (pos 4)) (number (pos 2)) (set (element 1 [] 3) (plus (read (element 1 [] 3)) (read (element 0 (turn 0 ∷ []) 4))) ∷ []) ∷ [])
+
+-- out y; for i in 0 .. 4 { if i == 2 { y = i; } }
+abbrev second : KernelParts
+second = kernel (declared (codes "y") Output [] 2 ∷ [])
+    (repeat (number (pos 0)) (number (pos 4)) (branch (turn 0) Equal (number (pos 2)) (set (element 0 [] 3) (roll-Expr (expr.Turn 0)) ∷ []) [] ∷ []) ∷ [])
+
+pub second_graph : graph_of second ≡ Ok (record {
+  title = codes "k";
+  nodes = record { op = op.Set; args = Const (pos 2) ∷ none ∷ none ∷ [] } ∷ [];
+  names = [];
+  outputs = record { label = codes "y"; vertex = 0 } ∷ [];
+})
+unfolding assign cells_of_decl labels_of_decl loop_numbers condition numbers one_turn one_pass digits
+second_graph = simp trees refl
 
 -- out y; y = 2 + 3; a constant output element has a vertex of its own
 abbrev folded : KernelParts
@@ -128,6 +158,15 @@ copied = kernel (declared (codes "A") Input (2 ∷ 3 ∷ []) 1 ∷ declared (cod
 -- the node of an input
 abbrev input : Node
 input = record { op = op.Input; args = none ∷ none ∷ none ∷ [] }
+
+pub every_other_graph : graph_of every_other ≡ Ok (record {
+  title = codes "k";
+  nodes = input ∷ input ∷ input ∷ input ∷ record { op = op.Add; args = Const (pos 0) ∷ Vertex 0 ∷ none ∷ [] } ∷ record { op = op.Add; args = Vertex 4 ∷ Vertex 2 ∷ none ∷ [] } ∷ [];
+  names = codes "a[0]" ∷ codes "a[1]" ∷ codes "a[2]" ∷ codes "a[3]" ∷ [];
+  outputs = record { label = codes "y"; vertex = 5 } ∷ [];
+})
+unfolding assign cells_of_decl labels_of_decl loop_numbers numbers one_turn one_pass digits
+every_other_graph = simp trees refl
 
 pub copied_graph : graph_of copied ≡ Ok (record {
   title = codes "k";
@@ -164,13 +203,23 @@ output_unset = simp trees refl
 
 -- for i in 2 .. 1 { y = a[2]; } y = 1; what is not executed has no fault
 pub no_turn : shape_fault (row (repeat (number (pos 2)) (number (pos 1)) (set (element 1 [] 3) (read (element 0 (number (pos 2) ∷ []) 4)) ∷ []) ∷ set (element 1 [] 3) (constant (pos 1)) ∷ [])) ≡ None
-unfolding assign cells_of_decl bounds numbers one_turn one_pass
+unfolding assign cells_of_decl loop_numbers numbers one_turn one_pass
 no_turn = simp trees refl
 
 -- for i in 0 .. 1000001 { } the loop counts 3 turns, and then its second bound is too big
 pub big_bound : shape_fault (row (repeat (number (pos 0)) (number (pos 1000001)) [] ∷ [])) ≡ Some (fault 14 50)
-unfolding bounds
+unfolding loop_numbers
 big_bound = simp trees refl
+
+-- for i in 0 .. 3 by 0 { } the step is at 50
+pub bad_step : shape_fault (row (repeat_by (number (pos 0)) (number (pos 3)) (number (pos 0)) [] ∷ [])) ≡ Some (fault 17 50)
+unfolding loop_numbers
+bad_step = simp trees refl
+
+-- if 1 < 1 { y = a[2]; } else { y = 1; } what is not executed has no fault
+pub other_body : shape_fault (row (branch (number (pos 1)) Less (number (pos 1)) (set (element 1 [] 3) (read (element 0 (number (pos 2) ∷ []) 4)) ∷ []) (set (element 1 [] 3) (constant (pos 1)) ∷ []) ∷ [])) ≡ None
+unfolding assign cells_of_decl condition
+other_body = simp trees refl
 
 -- a turn more than 65,536; the statement is at 80 and counts 3
 pub too_many_turns : walk (row []).decls (set (element 1 [] 3) (constant (pos 1))) [] 65534 ≡ Err (fault 12 80)

@@ -9,15 +9,15 @@ use Rattle.kernel_ast.specs.declared.tree.Expr.TheOpen as expr
 use Rattle.kernel_ast.specs.declared.tree.Expr.TheFolds.{fold-Link, fold-roll-Expr, fold-roll-Link, ind-Expr, map-Expr, map-Link}
 use Rattle.kernel_ast.specs.declared.tree.Link.{Link, roll-Link}
 use Rattle.kernel_ast.specs.declared.tree.Stmt.{Stmt, roll-Stmt}
-use Rattle.kernel_ast.specs.declared.tree.Stmt.TheOpen.{Stmt-F, Assign, Loop}
+use Rattle.kernel_ast.specs.declared.tree.Stmt.TheOpen.{Stmt-F, Assign, Loop, Branch}
 use Rattle.kernel_ast.specs.declared.tree.Stmt.TheFolds.{fold-roll-Stmt, ind-Stmt, map-Stmt}
 use Rattle.kernel_ast.specs.declared.tree.DeclKind.TheVariants as kinds
 use Rattle.kernel_ast.specs.declared.tree.Place.{Place}
 use Rattle.kernel_ast.specs.KernelParts.{KernelParts, Declared}
 use Rattle.kernel_ast.specs.declared.element.Cell.{Cell}
 use Rattle.kernel_ast.specs.declared.element.Fault.{Fault}
-use Rattle.kernel_ast.specs.Steps.{and_then, in_turn, each, numbers}
-use Rattle.kernel_ast.specs.Places.{located, bounds, turn}
+use Rattle.kernel_ast.specs.Steps.{and_then, in_turn, each}
+use Rattle.kernel_ast.specs.Places.{located, loop_numbers, condition, turn}
 use Rattle.kernel_ast.specs.Walk.{all_at}
 use Rattle.kernel_ast.specs.Machine.{Machine, Run, Elements, State, Execution, unset, read_option, chain, arguments, expr_step, link_step, evaluate, assign, one_pass, stmt_step, execute, execute_all, enter, held, output_unset, leave, cells_of, no_elements, run_all, put, is_cell}
 
@@ -158,6 +158,12 @@ module _ {X S Y T : Type 0} (M : Machine X S) (N : Machine Y T) (h : X → Y) (g
   unfolding one_pass
   pass_pictured body indices i s = body_pictured body (indices ++ i ∷ []) s
 
+  branch_pictured : (holds : Bool) (taken other : List ((s : Stmt) × IsExecuted s)) (indices : List ℤ) (s : State X S)
+      → mapped states (in_turn (all_at (if holds then map (execute M decls) (map (λ e. e.0) taken) else map (execute M decls) (map (λ e. e.0) other)) indices) s)
+      ≡ in_turn (all_at (if holds then map (execute N decls) (map (λ e. e.0) taken) else map (execute N decls) (map (λ e. e.0) other)) indices) (states s)
+  branch_pictured true taken other indices s = body_pictured taken indices s
+  branch_pictured false taken other indices s = body_pictured other indices s
+
   stmt_opened : (x : Stmt-F Stmt)
       → ((indices : List ℤ) (s : State X S) → mapped states (stmt_step M decls (map-Stmt Stmt (Execution X S) (execute M decls) x) indices s) ≡ stmt_step N decls (map-Stmt Stmt (Execution Y T) (execute N decls) x) indices (states s))
       → IsExecuted (roll-Stmt x)
@@ -166,9 +172,12 @@ module _ {X S Y T : Type 0} (M : Machine X S) (N : Machine Y T) (h : X → Y) (g
 
   stmt_parts : (y : Stmt-F ((s : Stmt) × IsExecuted s)) → IsExecuted (roll-Stmt (map-Stmt ((s : Stmt) × IsExecuted s) Stmt (λ e. e.0) y))
   stmt_parts (Assign target value at) = stmt_opened (Assign target value at) (λ indices s. assigned target value indices s)
-  stmt_parts (Loop from to body at) =
-      stmt_opened (Loop from to (map (λ e. e.0) body) at) (λ indices s.
-      mapped-after states (bounds indices from to) _ _ (λ b. each_mapped states _ _ (numbers b.0 b.1) (pass_pictured body indices) s))
+  stmt_parts (Loop from to by body at) =
+      stmt_opened (Loop from to by (map (λ e. e.0) body) at) (λ indices s.
+      mapped-after states (loop_numbers indices from to by) _ _ (λ ns. each_mapped states _ _ ns (pass_pictured body indices) s))
+  stmt_parts (Branch left rel right taken other at) =
+      stmt_opened (Branch left rel right (map (λ e. e.0) taken) (map (λ e. e.0) other) at) (λ indices s.
+      mapped-after states (condition indices left rel right) _ _ (λ holds. branch_pictured holds taken other indices s))
 
   stmt_layer : (x : Stmt-F Stmt) (y : Stmt-F ((s : Stmt) × IsExecuted s)) → map-Stmt ((s : Stmt) × IsExecuted s) Stmt (λ e. e.0) y ≡ x → IsExecuted (roll-Stmt x)
   stmt_layer x y is = subst (λ z. IsExecuted (roll-Stmt z)) is (stmt_parts y)

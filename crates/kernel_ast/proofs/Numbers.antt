@@ -1,53 +1,60 @@
--- The numbers from one to below another.
-use Rattle.std.proofs.Common.{◌≡◌, ◌∷◌, [], ℤ, pos, negsuc, suc, ◌+ℤ◌, ◌-ℤ◌, ◌<ℤ◌, ◌≤ℤ◌, refl, sym, ap, subst, ◌∙◌, arith, true, false, Result, Ok, Err}
-use lib.Signed.{lt_z}
-use Rattle.kernel_ast.specs.declared.element.Fault.{Fault}
+-- The numbers from one to below another, each time a step more.
+use Rattle.std.proofs.Common.{◌≡◌, ℕ, zero, suc, ◌≤◌, ◌∷◌, [], ℤ, pos, negsuc, ◌+ℤ◌, ◌-ℤ◌, ◌<ℤ◌, ◌≤ℤ◌, cond, refl, sym, ap, ◌∙◌, ⊎_elim, inl, inr, ◌⊎◌, arith, Bool, true, false}
+use Rattle.std.specs.Prelude.{int_lt}
 use Rattle.std.proofs.lemmas.Int.{ints}
-use Rattle.kernel_ast.specs.Steps.{and_then, each, numbers, rising, clipped}
+use Rattle.kernel_ast.specs.Steps.{numbers, rising, clipped}
 
-clipped-end : (a b : ℤ) → b ≤ℤ a → clipped (b -ℤ a) ≡ 0
-clipped-end a b h = tested (b -ℤ a) refl
+-- how a test of two numbers tells their order
+below_or_not : (a b : ℤ) → ((int_lt a b ≡ true) × (a <ℤ b)) ⊎ ((int_lt a b ≡ false) × (b ≤ℤ a))
+below_or_not a b = told (int_lt a b) refl
   where
-    tested : (d : ℤ) → b -ℤ a ≡ d → clipped d ≡ 0
-    tested (pos n) e = let g : n ≡ 0 = omega (arith, ints, h, e) in g
-    tested (negsuc n) e = refl
+    told : (t : Bool) → int_lt a b ≡ t → ((int_lt a b ≡ true) × (a <ℤ b)) ⊎ ((int_lt a b ≡ false) × (b ≤ℤ a))
+    told true e = inl (e, grind (arith, ints))
+    told false e = inr (e, grind (arith, ints))
 
-pub numbers-end : (a b : ℤ) → b ≤ℤ a → numbers a b ≡ []
-unfolding numbers
-numbers-end a b h = ap (rising a) (clipped-end a b h)
-
-clipped-step : (a b : ℤ) → a <ℤ b → clipped (b -ℤ a) ≡ suc (clipped (b -ℤ (a +ℤ pos 1)))
-clipped-step a b h = tested (b -ℤ a) (b -ℤ (a +ℤ pos 1)) refl refl
+clipped-above : (a b : ℤ) (n : ℕ) → clipped (b -ℤ a) ≤ n → b ≤ℤ (a +ℤ pos n)
+clipped-above a b n h = tested (b -ℤ a) refl
   where
-    tested : (d e : ℤ) → b -ℤ a ≡ d → b -ℤ (a +ℤ pos 1) ≡ e → clipped d ≡ suc (clipped e)
-    tested (pos m) (pos n) p q = let g : m ≡ suc n = omega (arith, ints, h, p, q) in g
-    tested (pos m) (negsuc n) p q = let g : m ≡ suc 0 = omega (arith, ints, h, p, q) in g
-    tested (negsuc m) (pos n) p q = let g : 0 ≡ suc n = omega (arith, ints, h, p, q) in g
-    tested (negsuc m) (negsuc n) p q = let g : 0 ≡ suc 0 = omega (arith, ints, h, p, q) in g
+    tested : (d : ℤ) → b -ℤ a ≡ d → b ≤ℤ (a +ℤ pos n)
+    tested (pos m) e = let g : clipped (b -ℤ a) ≡ m = ap clipped e in omega (arith, ints, h, e, g)
+    tested (negsuc m) e = omega (arith, ints, e)
 
-pub numbers-step : (a b : ℤ) → a <ℤ b → numbers a b ≡ a ∷ numbers (a +ℤ pos 1) b
+rising-end : (n : ℕ) (a b step : ℤ) → int_lt a b ≡ false → rising n a b step ≡ []
+rising-end zero a b step h = refl
+rising-end (suc n) a b step h = ap (λ t. cond t (a ∷ rising n (a +ℤ step) b step) []) h
+
+rising-step : (n : ℕ) (a b step : ℤ) → int_lt a b ≡ true → rising (suc n) a b step ≡ a ∷ rising n (a +ℤ step) b step
+rising-step n a b step h = ap (λ t. cond t (a ∷ rising n (a +ℤ step) b step) []) h
+
+-- there are no more than from a to b
+enough : (n m : ℕ) (a b step : ℤ) → pos 1 ≤ℤ step → b ≤ℤ (a +ℤ pos n) → b ≤ℤ (a +ℤ pos m) → rising n a b step ≡ rising m a b step
+enough zero m a b step s h k = ⊎_elim (λ t. absurd (omega (arith, ints, h, t.1))) (λ t. sym (rising-end m a b step t.0)) (below_or_not a b)
+enough (suc n) zero a b step s h k = ⊎_elim (λ t. absurd (omega (arith, ints, k, t.1))) (λ t. rising-end (suc n) a b step t.0) (below_or_not a b)
+enough (suc n) (suc m) a b step s h k =
+    ⊎_elim
+    (λ t. rising-step n a b step t.0 ∙ ap (λ ns. a ∷ ns) (enough n m (a +ℤ step) b step s (omega (arith, ints, s, h)) (omega (arith, ints, s, k))) ∙ sym (rising-step m a b step t.0))
+    (λ t. rising-end (suc n) a b step t.0 ∙ sym (rising-end (suc m) a b step t.0))
+    (below_or_not a b)
+
+-- none where the end is not above the first
+pub numbers-end : (a b step : ℤ) → b ≤ℤ a → numbers a b step ≡ []
 unfolding numbers
-numbers-step a b h = ap (rising a) (clipped-step a b h)
+numbers-end a b step h = ⊎_elim (λ t. absurd (omega (arith, ints, h, t.1))) (λ t. rising-end (clipped (b -ℤ a)) a b step t.0) (below_or_not a b)
 
--- A loop over such numbers: what is left of it.
-pub loop_kept : {S X : Type 0} (f : X → ℤ → S → Result S Fault) (x y : X) (i next to : ℤ) (s after : S) (whole : Result S Fault)
-    → lt_z i to ≡ true → next ≡ i +ℤ pos 1 → y ≡ x → each (f x) (numbers i to) s ≡ whole → f y i s ≡ Ok after → each (f x) (numbers next to) after ≡ whole
-loop_kept f x y i next to s after whole lt n same e is =
-    let below : i <ℤ to = grind (arith, ints) in
-    let here : f x i s ≡ Ok after = subst (λ z. f z i s ≡ Ok after) same is in
-    ap (λ k. each (f x) (numbers k to) after) n ∙ sym (ap (λ ns. each (f x) ns s) (numbers-step i to below) ∙ ap (λ o. and_then o (each (f x) (numbers (i +ℤ pos 1) to))) here) ∙ e
+-- the first, and then those from a step more on
+pub numbers-step : (a b step : ℤ) → pos 1 ≤ℤ step → a <ℤ b → numbers a b step ≡ a ∷ numbers (a +ℤ step) b step
+unfolding numbers
+numbers-step a b step s h = counted (clipped (b -ℤ a)) refl
+  where
+    some : int_lt a b ≡ true
+    some = ⊎_elim (λ t. t.0) (λ t. absurd (omega (arith, ints, h, t.1))) (below_or_not a b)
 
-pub loop_ended : {S X : Type 0} (f : X → ℤ → S → Result S Fault) (x : X) (i from to from' to' : ℤ) (s start : S)
-    → lt_z i to ≡ false → from ≡ from' → to ≡ to' → each (f x) (numbers i to) s ≡ each (f x) (numbers from to) start → each (f x) (numbers from' to') start ≡ Ok s
-loop_ended f x i from to from' to' s start ge p q e =
-    let above : to ≤ℤ i = grind (arith, ints) in
-    subst (λ a. each (f x) (numbers a to') start ≡ Ok s) p (subst (λ b. each (f x) (numbers from b) start ≡ Ok s) q
-    (sym e ∙ ap (λ ns. each (f x) ns s) (numbers-end i to above)))
-
-pub loop_stopped : {S X : Type 0} (f : X → ℤ → S → Result S Fault) (x y : X) (i from to from' to' : ℤ) (s start : S) (e : Fault)
-    → lt_z i to ≡ true → from ≡ from' → to ≡ to' → y ≡ x → each (f x) (numbers i to) s ≡ each (f x) (numbers from to) start → f y i s ≡ Err e → each (f x) (numbers from' to') start ≡ Err e
-loop_stopped f x y i from to from' to' s start stop lt p q same e is =
-    let below : i <ℤ to = grind (arith, ints) in
-    let here : f x i s ≡ Err stop = subst (λ z. f z i s ≡ Err stop) same is in
-    subst (λ a. each (f x) (numbers a to') start ≡ Err stop) p (subst (λ b. each (f x) (numbers from b) start ≡ Err stop) q
-    (sym e ∙ ap (λ ns. each (f x) ns s) (numbers-step i to below) ∙ ap (λ o. and_then o (each (f x) (numbers (i +ℤ pos 1) to))) here))
+    counted : (n : ℕ) → clipped (b -ℤ a) ≡ n → rising n a b step ≡ a ∷ rising (clipped (b -ℤ (a +ℤ step))) (a +ℤ step) b step
+    counted zero e =
+        let whole : b ≤ℤ (a +ℤ pos 0) = clipped-above a b 0 (omega (arith, e)) in
+        absurd (omega (arith, ints, h, whole))
+    counted (suc n) e =
+        let whole : b ≤ℤ (a +ℤ pos (suc n)) = clipped-above a b (suc n) (omega (arith, e)) in
+        let rest : b ≤ℤ ((a +ℤ step) +ℤ pos (clipped (b -ℤ (a +ℤ step)))) = clipped-above (a +ℤ step) b (clipped (b -ℤ (a +ℤ step))) (omega arith) in
+        rising-step n a b step some
+        ∙ ap (λ ns. a ∷ ns) (enough n (clipped (b -ℤ (a +ℤ step))) (a +ℤ step) b step s (omega (arith, ints, s, whole)) rest)

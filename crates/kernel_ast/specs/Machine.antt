@@ -7,24 +7,26 @@ use Rattle.kernel_ast.specs.declared.tree.Expr.{Expr, fold-Expr}
 use Rattle.kernel_ast.specs.declared.tree.Expr.TheOpen.{Expr-F, Link-F, Number, Turn, Minus, Chain, Call}
 use Rattle.kernel_ast.specs.declared.tree.Expr.TheOpen as expr
 use Rattle.kernel_ast.specs.declared.tree.Stmt.{Stmt, fold-Stmt}
-use Rattle.kernel_ast.specs.declared.tree.Stmt.TheOpen.{Stmt-F, Assign, Loop}
+use Rattle.kernel_ast.specs.declared.tree.Stmt.TheOpen.{Stmt-F, Assign, Loop, Branch}
 use Rattle.kernel_ast.specs.declared.tree.Place.{Place}
 use Rattle.kernel_ast.specs.declared.tree.DeclKind.{DeclKind}
 use Rattle.kernel_ast.specs.declared.tree.DeclKind.TheVariants.{Input, Output, Temp}
 use Rattle.kernel_ast.specs.declared.element.Cell.{Cell}
 use Rattle.kernel_ast.specs.declared.element.Fault.{Fault}
+use Rattle.kernel_ast.specs.declared.rule.RunRule.TheVariants.{Unset, OutputUnset}
 use Rattle.kernel_ast.specs.KernelParts.{KernelParts, Declared}
-use Rattle.kernel_ast.specs.Steps.{and_then, in_turn, each, numbers}
-use Rattle.kernel_ast.specs.Places.{fault, located, bounds, turn, cell}
+use Rattle.kernel_ast.specs.RunRules.{code_of}
+use Rattle.kernel_ast.specs.Steps.{and_then, in_turn, each}
+use Rattle.kernel_ast.specs.Places.{fault, located, loop_numbers, condition, turn, cell}
 use Rattle.kernel_ast.specs.Walk.{all_at}
 
 -- an element is read that is not set; at the place's name
 abbrev pub unset : ℕ → Fault
-unset = fault 8
+unset = fault (code_of Unset)
 
 -- an output element is not set at the end; at the name in its declaration
 abbrev pub output_unset : ℕ → Fault
-output_unset = fault 10
+output_unset = fault (code_of OutputUnset)
 
 -- a step that gives a value (V) and changes what grows beside the elements (S), or faults
 abbrev pub Run : Type 0 → Type 0 → Type 0
@@ -103,11 +105,14 @@ assign M decls target value indices s =
 unfoldable pub one_pass : {S : Type 0} → List (List ℤ → S → Result S Fault) → List ℤ → ℤ → S → Result S Fault
 one_pass body indices i = in_turn (all_at body (indices ++ i ∷ []))
 
--- one layer of a statement: a loop's bounds are evaluated once, as it is reached
+-- one layer of a statement: a loop's bounds and its step are evaluated once, as it is reached; a branch runs its first body where its
+-- relation holds, and else its second
 abbrev pub stmt_step : {V S : Type 0} → Machine V S → List Declared → Stmt-F (Execution V S) → Execution V S
 stmt_step M decls (Assign target value at) indices s = assign M decls target value indices s
-stmt_step M decls (Loop from to body at) indices s =
-    and_then (bounds indices from to) (λ b. each (one_pass body indices) (numbers b.0 b.1) s)
+stmt_step M decls (Loop from to by body at) indices s =
+    and_then (loop_numbers indices from to by) (λ ns. each (one_pass body indices) ns s)
+stmt_step M decls (Branch left rel right taken other at) indices s =
+    and_then (condition indices left rel right) (λ holds. in_turn (all_at (if holds then taken else other) indices) s)
 
 -- the execution of a statement
 abbrev pub execute : {V S : Type 0} → Machine V S → List Declared → Stmt → Execution V S

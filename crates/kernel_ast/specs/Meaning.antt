@@ -7,7 +7,9 @@ use Rattle.comp_graph.specs.declared.node.Operand.{Operand}
 use Rattle.comp_graph.specs.declared.node.Operand.TheVariants.{Vertex, Const}
 use Rattle.comp_graph.specs.Operations.{value_of}
 use Rattle.kernel_ast.specs.declared.element.Fault.{Fault}
+use Rattle.kernel_ast.specs.declared.rule.RunRule.TheVariants.{TooManyVertices}
 use Rattle.kernel_ast.specs.KernelParts.{KernelParts}
+use Rattle.kernel_ast.specs.RunRules.{code_of, most_vertices}
 use Rattle.kernel_ast.specs.Steps.{and_then}
 use Rattle.kernel_ast.specs.Places.{fault}
 use Rattle.kernel_ast.specs.Walk.{walk_all}
@@ -15,7 +17,7 @@ use Rattle.kernel_ast.specs.Machine.{Machine, Run, run_all}
 
 -- a 257th vertex is needed; at the sign or function word, or at the name in the declaration of the input or output
 abbrev pub too_many_vertices : ℕ → Fault
-too_many_vertices = fault 11
+too_many_vertices = fault (code_of TooManyVertices)
 
 -- an entry of the log: an operation, with operands that are earlier entries or constants
 pub record Entry : Type 0 where
@@ -28,7 +30,7 @@ entry op operands = record { op = op; operands = operands }
 
 -- an entry is appended, and comes from there itself; there are at most 256
 abbrev pub append_entry : ℕ → Entry → Run Operand (List Entry)
-append_entry at e log = if nat_lt (length log) 256 then Ok (Vertex (length log), log ++ e ∷ []) else Err (too_many_vertices at)
+append_entry at e log = if nat_lt (length log) most_vertices then Ok (Vertex (length log), log ++ e ∷ []) else Err (too_many_vertices at)
 
 -- one operand more, if it is a constant too
 abbrev pub add_constant : Operand → Option (List ℤ) → Option (List ℤ)

@@ -1,5 +1,6 @@
 -- The values of indices, and the elements that places name (this project's convention).
-use Rattle.std.specs.Prelude.{◌+◌, ◌*◌, ℕ, ℤ, pos, negsuc, neg_ℤ, ◌+ℤ◌, ◌-ℤ◌, ◌*ℤ◌, int_le, int_lt, Bool, ◌&&◌, if◌then◌else◌, List, [], ◌∷◌, Option, Some, None, Result, Ok, Err, slice_get, slice_index_or, unsigned_abs}
+use Rattle.std.specs.Prelude.{◌+◌, ◌*◌, ℕ, ℤ, pos, negsuc, neg_ℤ, ◌+ℤ◌, ◌-ℤ◌, ◌*ℤ◌, int_le, int_lt, Bool, ◌&&◌, not, if◌then◌else◌, List, [], ◌∷◌, Option, Some, None, Result, Ok, Err, slice_get, slice_index_or, unsigned_abs}
+use Rattle.std.specs.Ordering.{int_eq}
 use Rattle.comp_graph.specs.declared.operation.Op.{Op}
 use Rattle.comp_graph.specs.declared.operation.Op.TheVariants.{Add, Sub, Mul}
 use Rattle.kernel_ast.specs.declared.tree.IndexTree.{IndexTree, fold-IndexTree}
@@ -7,11 +8,15 @@ use Rattle.kernel_ast.specs.declared.tree.IndexTree.TheOpen.{IndexTree-F, IndexL
 use Rattle.kernel_ast.specs.declared.tree.IndexTree.TheFolds.{fold-IndexLink}
 use Rattle.kernel_ast.specs.declared.tree.IndexLink.{IndexLink}
 use Rattle.kernel_ast.specs.declared.tree.Index.{Index}
+use Rattle.kernel_ast.specs.declared.tree.Relation.{Relation}
+use Rattle.kernel_ast.specs.declared.tree.Relation.TheVariants.{Equal, NotEqual, Less, AtMost, More, AtLeast}
 use Rattle.kernel_ast.specs.declared.tree.Place.{Place}
 use Rattle.kernel_ast.specs.declared.element.Cell.{Cell}
 use Rattle.kernel_ast.specs.declared.element.Fault.{Fault}
 use Rattle.kernel_ast.specs.KernelParts.{Declared}
-use Rattle.kernel_ast.specs.Steps.{and_then}
+use Rattle.kernel_ast.specs.declared.rule.RunRule.TheVariants.{OutOfRange, BigIndex, BadStep}
+use Rattle.kernel_ast.specs.RunRules.{code_of}
+use Rattle.kernel_ast.specs.Steps.{and_then, numbers}
 
 -- a fault by its code and its place in the text
 abbrev pub fault : ℕ → ℕ → Fault
@@ -19,12 +24,12 @@ fault code at = record { code = code; at = at }
 
 -- an index value is below 0 or not below its size; at the place's name
 abbrev pub out_of_range : ℕ → Fault
-out_of_range = fault 7
+out_of_range = fault (code_of OutOfRange)
 
--- a number, or the value of an operator or a minus sign, in an index or a bound is below -1,000,000 or above 1,000,000; at the first
--- token of that index or bound
+-- a number, or the value of an operator or a minus sign, in an index is below -1,000,000 or above 1,000,000; at the first token of that
+-- index
 abbrev pub big_index : ℕ → Fault
-big_index = fault 14
+big_index = fault (code_of BigIndex)
 
 -- a value is from -1,000,000 to 1,000,000
 abbrev pub is_small : ℤ → Bool
@@ -83,9 +88,36 @@ ok_or_fault f (Some a) = Ok a
 abbrev pub value_of_index : List ℤ → Index → Result ℤ Fault
 value_of_index turns i = ok_or_fault (big_index i.at) (index_value turns i.tree)
 
--- both bounds of a loop, the first one first
-unfoldable pub bounds : List ℤ → Index → Index → Result (ℤ × ℤ) Fault
-bounds turns from to = and_then (value_of_index turns from) (λ a. and_then (value_of_index turns to) (λ b. Ok (a, b)))
+-- the value of a step is below 1; at the first token of the step
+abbrev pub bad_step : ℕ → Fault
+bad_step = fault (code_of BadStep)
+
+-- a step is at least 1
+abbrev pub tested_step : ℕ → ℤ → Result ℤ Fault
+tested_step at n = if int_le (pos 1) n then Ok n else Err (bad_step at)
+
+-- the step of a loop, 1 where none is written
+abbrev pub step_of : List ℤ → Option Index → Result ℤ Fault
+step_of turns None = Ok (pos 1)
+step_of turns (Some by) = and_then (value_of_index turns by) (tested_step by.at)
+
+-- the numbers that a loop's index takes: the first bound, the second and the step are evaluated, and then the step is tested
+unfoldable pub loop_numbers : List ℤ → Index → Index → Option Index → Result (List ℤ) Fault
+loop_numbers turns from to by =
+    and_then (value_of_index turns from) (λ a. and_then (value_of_index turns to) (λ b. and_then (step_of turns by) (λ step. Ok (numbers a b step))))
+
+-- whether a relation holds of two whole numbers
+abbrev pub is_related : Relation → ℤ → ℤ → Bool
+is_related Equal a b = int_eq a b
+is_related NotEqual a b = not (int_eq a b)
+is_related Less a b = int_lt a b
+is_related AtMost a b = int_le a b
+is_related More a b = int_lt b a
+is_related AtLeast a b = int_le b a
+
+-- whether a branch's relation holds: its left side is evaluated, and then its right one
+unfoldable pub condition : List ℤ → Index → Relation → Index → Result Bool Fault
+condition turns left rel right = and_then (value_of_index turns left) (λ a. and_then (value_of_index turns right) (λ b. Ok (is_related rel a b)))
 
 -- an index value is from 0 to its size less 1
 abbrev pub is_within : ℤ → ℕ → Bool

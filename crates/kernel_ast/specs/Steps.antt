@@ -1,5 +1,5 @@
 -- What is done step by step, up to the first fault.
-use Rattle.std.specs.Prelude.{ℕ, zero, suc, ℤ, pos, negsuc, ◌+ℤ◌, ◌-ℤ◌, List, [], ◌∷◌, Result, Ok, Err}
+use Rattle.std.specs.Prelude.{ℕ, zero, suc, ℤ, pos, negsuc, ◌+ℤ◌, ◌-ℤ◌, int_lt, if◌then◌else◌, List, [], ◌∷◌, Result, Ok, Err}
 
 -- go on with a result, and stop at a fault
 abbrev pub and_then : {A B E : Type 0} → Result A E → (A → Result B E) → Result B E
@@ -16,16 +16,17 @@ abbrev pub each : {A S E : Type 0} → (A → S → Result S E) → List A → S
 each f [] s = Ok s
 each f (a ∷ more) s = and_then (f a s) (each f more)
 
--- so many numbers from one on
-abbrev pub rising : ℤ → ℕ → List ℤ
-rising a zero = []
-rising a (suc n) = a ∷ rising (a +ℤ pos 1) n
+-- a number, and then each time the step more, while it is below the end; at most so many
+abbrev pub rising : ℕ → ℤ → ℤ → ℤ → List ℤ
+rising zero a end step = []
+rising (suc n) a end step = if int_lt a end then a ∷ rising n (a +ℤ step) end step else []
 
 -- a number, or 0 where it is negative
 abbrev pub clipped : ℤ → ℕ
 clipped (pos n) = n
 clipped (negsuc n) = 0
 
--- the numbers from a to b less 1; none where b is not greater than a
-unfoldable pub numbers : ℤ → ℤ → List ℤ
-numbers a b = rising a (clipped (b -ℤ a))
+-- The numbers that a loop's index takes from a to below b: a, and then each time the step more. None where b is not greater than a. A
+-- step is at least 1, so there are no more than from a to b.
+unfoldable pub numbers : ℤ → ℤ → ℤ → List ℤ
+numbers a b step = rising (clipped (b -ℤ a)) a b step

@@ -1,6 +1,6 @@
 -- How many turns a statement counts as it is reached (this project's convention): 1, and 1 for each number, name, operator sign and
 -- function word in it.
-use Rattle.std.specs.Prelude.{◌+◌, ℕ, map, sum}
+use Rattle.std.specs.Prelude.{◌+◌, ℕ, map, sum, Option, Some, None}
 use Rattle.kernel_ast.specs.declared.tree.IndexTree.{IndexTree, fold-IndexTree}
 use Rattle.kernel_ast.specs.declared.tree.IndexTree.TheOpen as index
 use Rattle.kernel_ast.specs.declared.tree.IndexTree.TheFolds.{fold-IndexLink}
@@ -12,7 +12,7 @@ use Rattle.kernel_ast.specs.declared.tree.Expr.TheOpen.{Expr-F, Link-F, Number, 
 use Rattle.kernel_ast.specs.declared.tree.Expr.TheFolds.{fold-Link}
 use Rattle.kernel_ast.specs.declared.tree.Link.{Link}
 use Rattle.kernel_ast.specs.declared.tree.Stmt.{Stmt, fold-Stmt}
-use Rattle.kernel_ast.specs.declared.tree.Stmt.TheOpen.{Stmt-F, Assign, Loop}
+use Rattle.kernel_ast.specs.declared.tree.Stmt.TheOpen.{Stmt-F, Assign, Loop, Branch}
 
 -- one layer of an index: a number or a name counts 1, a minus 1 more than its operand
 abbrev pub tree_weight_step : index.IndexTree-F ℕ ℕ → ℕ
@@ -66,15 +66,25 @@ link_weight = fold-Link ℕ ℕ expr_weight_step link_step
 abbrev pub assign_weight : Place → Expr → ℕ
 assign_weight target value = 1 + (place_weight target + expr_weight value)
 
--- a loop counts 1 and both its bounds, each time it is reached
-abbrev pub loop_weight : Index → Index → ℕ
-loop_weight from to = 1 + (index_weight from + index_weight to)
+-- the weight of a step, 0 where none is written
+abbrev pub step_weight : Option Index → ℕ
+step_weight None = 0
+step_weight (Some by) = index_weight by
 
--- one layer of a statement: a loop's body is left out
+-- a loop counts 1, both its bounds and its step, each time it is reached
+abbrev pub loop_weight : Index → Index → Option Index → ℕ
+loop_weight from to by = 1 + (index_weight from + (index_weight to + step_weight by))
+
+-- a branch counts 1 and both its sides, each time it is reached
+abbrev pub branch_weight : Index → Index → ℕ
+branch_weight left right = 1 + (index_weight left + index_weight right)
+
+-- one layer of a statement: bodies are left out
 abbrev pub weight_step : Stmt-F ℕ → ℕ
 weight_step (Assign target value at) = assign_weight target value
-weight_step (Loop from to body at) = loop_weight from to
+weight_step (Loop from to by body at) = loop_weight from to by
+weight_step (Branch left rel right taken other at) = branch_weight left right
 
--- the weight of a statement, without a loop's body
+-- the weight of a statement, without the bodies in it
 abbrev pub weight : Stmt → ℕ
 weight = fold-Stmt ℕ weight_step

@@ -13,10 +13,11 @@ use Rattle.kernel_ast.specs.declared.tree.Place.{Place}
 use Rattle.kernel_ast.specs.declared.tree.Expr.{Expr, fold-Expr}
 use Rattle.kernel_ast.specs.declared.tree.Expr.TheOpen.{Expr-F, Link-F, Number, Cell, Turn, Minus, Chain, Call}
 use Rattle.kernel_ast.specs.declared.tree.Stmt.{Stmt, fold-Stmt}
-use Rattle.kernel_ast.specs.declared.tree.Stmt.TheOpen.{Stmt-F, Assign, Loop}
+use Rattle.kernel_ast.specs.declared.tree.Stmt.TheOpen.{Stmt-F, Assign, Loop, Branch}
 use Rattle.kernel_ast.specs.KernelParts.{KernelParts, Declared}
 use Rattle.kernel_ast.specs.Names.{IsName}
-use Rattle.kernel_ast.specs.Weights.{assign_weight, loop_weight}
+use Rattle.kernel_ast.specs.RunRules.{most_turns}
+use Rattle.kernel_ast.specs.Weights.{assign_weight, loop_weight, branch_weight}
 
 -- a number has at most 63 bits, and no sign
 abbrev pub is_number : ℤ → Bool
@@ -117,13 +118,20 @@ abbrev pub all_at : ℕ → List (ℕ → Bool) → Bool
 all_at loops [] = true
 all_at loops (fits ∷ more) = fits loops && all_at loops more
 
+-- a step is well formed, if one is written
+abbrev pub step_fits : ℕ → Option Index → Bool
+step_fits loops None = true
+step_fits loops (Some by) = index_fits loops by
+
 -- one layer of a statement in so many loops: its parts fit, its weight is at most 65,536, and at most 32 loops stand in one another;
--- a loop's bounds stand outside of it, and its body in one loop more
+-- a loop's bounds and its step stand outside of it, and its body in one loop more; a branch is no loop
 abbrev pub stmt_fits_step : List Declared → Stmt-F (ℕ → Bool) → ℕ → Bool
 stmt_fits_step decls (Assign target value at) loops =
-    target_fits decls loops target && (expr_fits decls loops value && nat_le (assign_weight target value) 65536)
-stmt_fits_step decls (Loop from to body at) loops =
-    nat_lt loops 32 && (index_fits loops from && (index_fits loops to && (nat_le (loop_weight from to) 65536 && all_at (suc loops) body)))
+    target_fits decls loops target && (expr_fits decls loops value && nat_le (assign_weight target value) most_turns)
+stmt_fits_step decls (Loop from to by body at) loops =
+    nat_lt loops 32 && (index_fits loops from && (index_fits loops to && (step_fits loops by && (nat_le (loop_weight from to by) most_turns && all_at (suc loops) body))))
+stmt_fits_step decls (Branch left rel right taken other at) loops =
+    index_fits loops left && (index_fits loops right && (nat_le (branch_weight left right) most_turns && (all_at loops taken && all_at loops other)))
 
 -- a statement is well formed where it stands in so many loops
 abbrev pub stmt_fits : List Declared → Stmt → ℕ → Bool

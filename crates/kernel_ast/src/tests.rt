@@ -6,7 +6,7 @@ ghost use Rattle.kernel_ast.specs.KernelParts.{Declared};
 
 use crate::kernel::Kernel;
 use crate::name::Name;
-use crate::tree::{Decl, DeclKind, Expr, Index, IndexLink, IndexTree, Link, Place, Stmt};
+use crate::tree::{Decl, DeclKind, Expr, Index, IndexLink, IndexTree, Link, Place, Relation, Stmt};
 use crate::weigh::weight;
 use comp_graph::label::Label;
 use comp_graph::operation::Op;
@@ -127,7 +127,43 @@ fn repeated(alloc: Global) -> Result<Stmt, AllocError>
             tree: IndexTree::Number(0),
         },
         to: double(alloc)?,
+        by: None,
         body,
+        at: 0,
+    })
+}
+
+// for j in 0 .. 2 * i by 2 * i { }
+fn stepped(alloc: Global) -> Result<Stmt, AllocError>
+    ensures { IfOk result (λ s. spec.weight s ≡ 8) }
+{
+    Ok(Stmt::Loop {
+        from: Index {
+            at: 9,
+            tree: IndexTree::Number(0),
+        },
+        to: double(alloc)?,
+        by: Some(double(alloc)?),
+        body: Items::new(alloc),
+        at: 0,
+    })
+}
+
+// if 2 * i <= 0 { y = x + 1; }
+fn chosen(alloc: Global) -> Result<Stmt, AllocError>
+    ensures { IfOk result (λ s. spec.weight s ≡ 5) }
+{
+    let mut taken = Items::new(alloc);
+    taken.push(increment(alloc)?)?;
+    Ok(Stmt::Branch {
+        left: double(alloc)?,
+        rel: Relation::AtMost,
+        right: Index {
+            at: 9,
+            tree: IndexTree::Number(0),
+        },
+        taken,
+        other: Items::new(alloc),
         at: 0,
     })
 }
@@ -138,6 +174,8 @@ fn weights(rt: HostRuntime) -> Result<(), Fail> {
     assert_eq!(rt; weight(&call(rt.alloc())?), 7);
     assert_eq!(rt; weight(&element(rt.alloc())?), 8);
     assert_eq!(rt; weight(&repeated(rt.alloc())?), 5);
+    assert_eq!(rt; weight(&stepped(rt.alloc())?), 8);
+    assert_eq!(rt; weight(&chosen(rt.alloc())?), 5);
     Ok(())
 }
 

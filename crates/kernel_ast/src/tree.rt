@@ -26,7 +26,7 @@ pub struct Decl {
     pub at: u32,
 }
 
-/// The tree of an index, or of a bound of a loop.
+/// The tree of an index.
 #[cycle(index)]
 #[derive(Drop)]
 pub enum IndexTree {
@@ -47,7 +47,7 @@ pub struct IndexLink {
     pub value: IndexTree,
 }
 
-/// An index of a place, or a bound of a loop.
+/// An index of a place, a bound or the step of a loop, or a side of a branch.
 #[derive(Drop)]
 pub struct Index {
     pub at: u32,
@@ -93,7 +93,26 @@ pub struct Link {
     pub at: u32,
 }
 
-/// A statement: an assignment, or a loop whose index goes from the first bound to the second less 1.
+/// How a branch compares its left side with its right one, as whole numbers.
+#[derive(Clone, Copy, Debug, PartialEq, Eq)]
+pub enum Relation {
+    /// `==`
+    Equal,
+    /// `!=`
+    NotEqual,
+    /// `<`
+    Less,
+    /// `<=`
+    AtMost,
+    /// `>`
+    More,
+    /// `>=`
+    AtLeast,
+}
+
+/// A statement: an assignment; a loop whose index takes the first bound, and then each time the step more, while it is below the
+/// second bound, where the step is 1 if none is written; or a branch, which runs its first body where the relation holds of its
+/// sides, and else its second.
 #[derive(Drop)]
 pub enum Stmt {
     Assign {
@@ -104,7 +123,16 @@ pub enum Stmt {
     Loop {
         from: Index,
         to: Index,
+        by: Option<Index>,
         body: Items<Stmt>,
+        at: u32,
+    },
+    Branch {
+        left: Index,
+        rel: Relation,
+        right: Index,
+        taken: Items<Stmt>,
+        other: Items<Stmt>,
         at: u32,
     },
 }

@@ -1,5 +1,6 @@
 //! The weight of a statement: how many turns it counts. Sums stop at the greatest number that a result holds.
 ghost use Rattle.std.specs.Prelude.{◌≡◌, ◌≤◌, min, map, sum};
+ghost use Rattle.kernel_ast.specs.RunRules.{most_turns};
 ghost use Rattle.kernel_ast.specs.Weights as spec;
 
 use crate::tree::{Expr, Index, IndexLink, IndexTree, Link, Place, Stmt};
@@ -89,22 +90,42 @@ fn assign_weight(target: &Place, value: &Expr) -> u32
         .saturating_add(1)
 }
 
-fn loop_weight(from: &Index, to: &Index) -> u32
-    ensures { result ≡ min (spec.loop_weight from.now to.now) 4294967295 }
+fn step_weight(by: &Option<Index>) -> u32
+    ensures { result ≡ min (spec.step_weight by.now) 4294967295 }
+{
+    match by {
+        Some(by) => tree_weight(&by.tree),
+        None => 0,
+    }
+}
+
+fn loop_weight(from: &Index, to: &Index, by: &Option<Index>) -> u32
+    ensures { result ≡ min (spec.loop_weight from.now to.now by.now) 4294967295 }
 {
     tree_weight(&from.tree)
         .saturating_add(tree_weight(&to.tree))
+        .saturating_add(step_weight(by))
+        .saturating_add(1)
+}
+
+fn branch_weight(left: &Index, right: &Index) -> u32
+    ensures { result ≡ min (spec.branch_weight left.now right.now) 4294967295 }
+{
+    tree_weight(&left.tree)
+        .saturating_add(tree_weight(&right.tree))
         .saturating_add(1)
 }
 
 /// The number of turns that a statement counts as it is reached: 1, and 1 for each number, name, operator sign and function word, on
-/// both sides of an assignment, or in both bounds of a loop. A loop's body and its turns are not in it (this project's convention).
+/// both sides of an assignment, in the bounds and the step of a loop, or in the sides of a branch. A loop's turns and the bodies of loops
+/// and branches are not in it (this project's convention).
 pub fn weight(stmt: &Stmt) -> u32
-    requires { spec.weight stmt.now ≤ 65536 }
+    requires { spec.weight stmt.now ≤ most_turns }
     ensures { result ≡ spec.weight stmt.now }
 {
     match stmt {
         Stmt::Assign { target, value, .. } => assign_weight(target, value),
-        Stmt::Loop { from, to, .. } => loop_weight(from, to),
+        Stmt::Loop { from, to, by, .. } => loop_weight(from, to, by),
+        Stmt::Branch { left, right, .. } => branch_weight(left, right),
     }
 }

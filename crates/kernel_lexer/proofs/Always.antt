@@ -1,23 +1,23 @@
 -- Each list of characters has tokens or a fault, and so has each text.
-use Rattle.std.proofs.Common.{◌≡◌, ℕ, zero, suc, ◌+◌, ◌-◌, ◌<◌, ◌≤◌, ◌^◌, Bool, true, false, List, [], ◌∷◌, ◌++◌, length, take, drop, Option, Some, None, refl, sym, ap, ◌∙◌, subst, inl, inr, ◌⊎◌, ⊎_elim, arith, length-append, pos}
+use Rattle.std.proofs.Common.{◌≡◌, ℕ, zero, suc, ◌+◌, ◌-◌, ◌<◌, ◌≤◌, ◌^◌, Bool, true, false, List, [], ◌∷◌, ◌++◌, length, take, drop, Option, Some, None, refl, ap, ◌∙◌, subst, inl, inr, ◌⊎◌, ⊎_elim, arith, length-append, pos}
 use Rattle.std.specs.Str.{chars, IsUtf8, IsValidUpTo}
 use Rattle.std.proofs.lemmas.Bool.Decides.{leb_tells}
 use Rattle.std.proofs.Math.Seq.{take-length}
 use Rattle.kernel_lexer.specs.declared.token.Token.{Token as Spot}
 use Rattle.kernel_lexer.specs.declared.token.TokenKind.TheVariants.{Number, Sign}
 use Rattle.kernel_lexer.specs.declared.token.Mark.{Mark}
-use Rattle.kernel_lexer.specs.declared.cut.Fault.{Fault}
-use Rattle.kernel_lexer.specs.declared.cut.Fault.TheVariants.{BadByte, TooBig}
+use Rattle.kernel_lexer.specs.declared.cut.TokenRule.{TokenRule}
+use Rattle.kernel_lexer.specs.declared.cut.TokenRule.TheVariants.{BadByte, TooBig}
 use Rattle.kernel_lexer.specs.declared.cut.Cut.{Cut}
 use Rattle.kernel_lexer.specs.declared.cut.Cut.TheVariants.{Token, NoToken}
-use Rattle.kernel_lexer.specs.Spelling.{Text, bytes, continues, is_digit, keyword, mark_of, named, sign_of, starts, value}
+use Rattle.kernel_lexer.specs.Spelling.{Text, bytes, continues, is_digit, keyword, named, starts, value}
 use Rattle.kernel_lexer.specs.Lexing.{AreTokens, Begins, FaultAfter, skip}
-use Rattle.kernel_lexer.specs.Cutting.{BeginsWord, BeginsNumber, BeginsOther, IsCut, run}
+use Rattle.kernel_lexer.specs.Cutting.{BeginsWord, BeginsNumber, BeginsOther, IsCut, front_sign, run}
 use Rattle.kernel_lexer.specs.Texts.{AreTextTokens, IsFront, IsTextFault, code_of}
 use Rattle.kernel_lexer.specs.Laws.{AlwaysOne}
 use Rattle.kernel_lexer.proofs.Words.{run_past}
 use Rattle.kernel_lexer.proofs.Signs.{digit_apart, word_apart, word_no_digit}
-use Rattle.kernel_lexer.proofs.Cuts.{no_token, number_big, number_cut, sign_cut, two_ways, word_big, word_cut}
+use Rattle.kernel_lexer.proofs.Cuts.{no_sign_cut, number_big, number_cut, sign_cut, two_ways, word_big, word_cut}
 use Rattle.kernel_lexer.proofs.Fronts.{front_exists}
 use Rattle.kernel_lexer.proofs.Spans.{skip_passes, some_char}
 
@@ -46,31 +46,16 @@ number_here c cs s d =
     ⊎_elim (λ h. (NoToken TooBig, number_big (c ∷ cs) len begun refl h.1))
     (λ h. (Token (Number (pos n)) len, number_cut (c ∷ cs) len (pos n) begun refl refl h.1)) (leb_tells (2 ^ 63) n)
 
--- where neither two points nor a sign of one character stand, no front is a sign
-no_sign_front : (c : ℕ) (cs word after : Text) → mark_of c ≡ None → sign_of (take 2 (c ∷ cs)) ≡ None → c ∷ cs ≡ word ++ after → sign_of word ≡ None
-no_sign_front c cs [] after m s e = refl
-no_sign_front c cs (b ∷ []) after m s e = let here : c ≡ b = cc in ap mark_of (sym here) ∙ m
-no_sign_front c cs (b ∷ d ∷ []) after m s e = ap (λ z. sign_of (take 2 z)) (sym e) ∙ s
-no_sign_front c cs (b ∷ d ∷ f ∷ word) after m s e = refl
-
-one_way : (o : Option Mark) → ((m : Mark) × (o ≡ Some m)) ⊎ (o ≡ None)
-one_way None = inr refl
-one_way (Some m) = inl (m, refl)
-
-dots_or_not : (c : ℕ) (cs : Text) → (len : ℕ) × (len ≤ length (c ∷ cs)) × (take len (c ∷ cs) ≡ take 2 (c ∷ cs))
-dots_or_not c [] = (1, omega arith, refl)
-dots_or_not c (d ∷ cs) = (2, omega arith, refl)
-
 sign_here : (c : ℕ) (cs : Text) → starts c ≡ false → is_digit c ≡ false → HasCut (c ∷ cs)
 unfolding HasCut
-sign_here c cs s d =
-    let begun : BeginsOther (c ∷ cs) = (c, cs, refl, s, d) in
-    let two = dots_or_not c cs in
-    ⊎_elim (λ m. (Token (Sign m.0) 1, sign_cut (c ∷ cs) 1 m.0 begun (omega arith) m.1))
-    (λ none. ⊎_elim (λ m. (Token (Sign m.0) two.0, sign_cut (c ∷ cs) two.0 m.0 begun two.1 (ap sign_of two.2 ∙ m.1)))
-    (λ neither. (NoToken BadByte, no_token (c ∷ cs) begun (λ word after e. no_sign_front c cs word after none neither e)))
-    (one_way (sign_of (take 2 (c ∷ cs)))))
-    (one_way (mark_of c))
+sign_here c cs s d = found (front_sign (c ∷ cs)) refl
+  where
+    begun : BeginsOther (c ∷ cs)
+    begun = (c, cs, refl, s, d)
+
+    found : (o : Option (Mark × ℕ)) → front_sign (c ∷ cs) ≡ o → (k : Cut) × IsCut (c ∷ cs) k
+    found None e = (NoToken BadByte, no_sign_cut (c ∷ cs) begun e)
+    found (Some m) e = (Token (Sign m.0) m.1, sign_cut (c ∷ cs) m.0 m.1 begun e)
 
 cut_here : (c : ℕ) (cs : Text) → HasCut (c ∷ cs)
 cut_here c cs =
@@ -79,7 +64,7 @@ cut_here c cs =
 
 -- the text has tokens or a fault
 pub Ends : ℕ → Text → Type 0
-Ends end text = ((ts : List Spot) × AreTokens end text ts) ⊎ ((f : Fault) × (ts : List Spot) × (left : Text) × FaultAfter end text ts f left)
+Ends end text = ((ts : List Spot) × AreTokens end text ts) ⊎ ((f : TokenRule) × (ts : List Spot) × (left : Text) × FaultAfter end text ts f left)
 
 one_more : (end : ℕ) (text : Text) (t : Spot) (w x : Text) → Begins end text t w x → Ends end x → Ends end text
 unfolding Ends
@@ -116,7 +101,7 @@ always_one text =
     let f = front_exists text in
     ⊎_elim (λ u. whole f.0 u) (λ v. cut_off f.0 v) f.1
   where
-    a_fault : (n : ℕ) → IsFront text n → (f : Fault) (ts : List Spot) (left : Text) → FaultAfter n (chars (take n text)) ts f left → (c : ℕ) × (at : ℕ) × IsTextFault text c at
+    a_fault : (n : ℕ) → IsFront text n → (f : TokenRule) (ts : List Spot) (left : Text) → FaultAfter n (chars (take n text)) ts f left → (c : ℕ) × (at : ℕ) × IsTextFault text c at
     a_fault n front f ts left a = (code_of f, n - bytes left, (n, front, inl (f, ts, left, a, refl, refl)))
 
     whole : (n : ℕ) → IsUtf8 text × (n ≡ length text) → ((ts : List Spot) × AreTextTokens text ts) ⊎ ((c : ℕ) × (at : ℕ) × IsTextFault text c at)

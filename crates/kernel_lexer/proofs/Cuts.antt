@@ -1,22 +1,21 @@
 -- What a cut says.
-use Rattle.std.proofs.Common.{◌≡◌, ℕ, suc, ◌+◌, ◌<◌, ◌≤◌, ◌^◌, Bool, true, false, cond, eqb, [], ◌∷◌, ◌++◌, length, take, drop, Option, Some, None, refl, sym, ap, ◌∙◌, inl, inr, ◌⊎◌, ⊎_elim, arith, length-append, get_or, pos, ℤ}
-use Rattle.std.specs.Prelude.{◌&&◌, ◌||◌, nat_le, nat_lt, is_some}
+use Rattle.std.proofs.Common.{◌≡◌, ℕ, suc, ◌+◌, ◌<◌, ◌≤◌, ◌^◌, Bool, true, false, cond, eqb, List, [], ◌∷◌, ◌++◌, length, take, drop, Option, Some, None, refl, sym, ap, subst, ◌∙◌, inl, inr, ◌⊎◌, arith, length-append, get_or, pos, ℤ}
+use Rattle.std.specs.Prelude.{◌&&◌, ◌||◌, nat_le, nat_lt, is_some, unwrap_or}
 use Rattle.std.specs.Char.{len_utf8, encode_utf8}
-use Rattle.std.specs.Str.{encode_utf8_all}
-use Rattle.std.proofs.lemmas.List.{take_more, take-append-drop, length-take-le}
+use Rattle.std.specs.Str.{encode_utf8_all, bytes_eq}
+use Rattle.std.specs.Map.{lookup}
+use Rattle.std.proofs.lemmas.List.{take_more, length-take-le}
 use Rattle.std.proofs.lemmas.Str.{encodes-append, length-encode, len_utf8_bounds}
 use Rattle.std.proofs.lemmas.Bool.{le-leb, lt-leb, lt-ltb, le-ltb}
 use Rattle.std.proofs.Math.Seq.{take-append_seam}
 use Rattle.kernel_lexer.specs.declared.token.TokenKind.TheVariants.{Number, Sign}
-use Rattle.kernel_lexer.specs.declared.token.Mark.TheVariants.{Dots}
-use Rattle.std.proofs.lemmas.Bool.{eqb-true}
 use Rattle.kernel_lexer.specs.declared.token.Mark.{Mark}
-use Rattle.kernel_lexer.specs.declared.cut.Fault.TheVariants.{BadByte, TooBig}
+use Rattle.kernel_lexer.specs.declared.cut.TokenRule.TheVariants.{BadByte, TooBig}
 use Rattle.kernel_lexer.specs.declared.cut.Cut.TheVariants.{Token, NoToken}
 use Rattle.std.specs.List.{list_all}
-use Rattle.kernel_lexer.specs.Spelling.{Text, is_digit, starts, continues, is_word, is_digits, mark_of, sign_of, is_spelling, Longest, kind_of, bytes, value, keyword, named, signed}
-use Rattle.kernel_lexer.specs.Cutting.{IsCut, run, past, BeginsWord, BeginsNumber, BeginsOther}
-use Rattle.kernel_lexer.proofs.Words.{run_past, all_run, longest_word, longest_digits}
+use Rattle.kernel_lexer.specs.Spelling.{Text, is_digit, starts, continues, is_word, is_digits, signs, sign_of, is_spelling, Longest, kind_of, bytes, value, keyword, named, signed}
+use Rattle.kernel_lexer.specs.Cutting.{IsCut, run, past, BeginsWord, BeginsNumber, BeginsOther, sized_or, front_sign}
+use Rattle.kernel_lexer.proofs.Words.{both_true, run_past, all_run, longest_word, longest_digits}
 
 -- ---- bytes
 
@@ -109,15 +108,34 @@ pub two_ways : (b : Bool) → (b ≡ true) ⊎ (b ≡ false)
 two_ways true = inl refl
 two_ways false = inr refl
 
--- no sign goes on as a sign
-sign_ends : {X : Type 0} (w : Text) (d : ℕ) (more : Text) (m k : Mark) → sign_of w ≡ Some m → sign_of (w ++ d ∷ more) ≡ Some k → X
-sign_ends [] d more m k e f = absurd (cc)
-sign_ends (c ∷ []) d [] m k e f =
-    ⊎_elim (λ h. let g : c ≡ 46 = eqb-true c 46 h in let n : None ≡ Some m = ap mark_of (sym g) ∙ e in absurd (cc))
-    (λ h. let n : None ≡ Some k = sym (ap (λ z. cond (z && eqb d 46) (Some Dots) None) h) ∙ f in absurd (cc)) (two_ways (eqb c 46))
-sign_ends (c ∷ []) d (e' ∷ more) m k e f = absurd (cc)
-sign_ends (c ∷ c' ∷ []) d more m k e f = absurd (cc)
-sign_ends (c ∷ c' ∷ c'' ∷ w) d more m k e f = absurd (cc)
+-- at most two characters
+at_most_two : Text → Bool
+at_most_two [] = true
+at_most_two (c ∷ []) = true
+at_most_two (c ∷ d ∷ []) = true
+at_most_two (c ∷ d ∷ e ∷ w) = false
+
+and_false : (b : Bool) → (b && false) ≡ false
+and_false true = refl
+and_false false = refl
+
+shorter_key : (c d e : ℕ) (w key : Text) → at_most_two key ≡ true → bytes_eq (c ∷ d ∷ e ∷ w) key ≡ false
+unfolding at_most_two
+shorter_key c d e w [] h = refl
+shorter_key c d e w (a ∷ []) h = and_false (eqb c a)
+shorter_key c d e w (a ∷ b ∷ []) h = ap (λ z. eqb c a && z) (and_false (eqb d b)) ∙ and_false (eqb c a)
+shorter_key c d e w (a ∷ b ∷ x ∷ key) h = absurd (cc)
+
+no_longer_key : (c d e : ℕ) (w : Text) (es : List (Text × Mark)) → list_all (λ k. at_most_two k.0) es ≡ true → lookup (λ k. bytes_eq (c ∷ d ∷ e ∷ w) k) es ≡ None
+no_longer_key c d e w [] h = refl
+no_longer_key c d e w (k ∷ es) h =
+    let both = both_true (at_most_two k.0) (list_all (λ x. at_most_two x.0) es) h in
+    ap (λ b. cond b (Some k.1) (lookup (λ x. bytes_eq (c ∷ d ∷ e ∷ w) x) es)) (shorter_key c d e w k.0 both.0) ∙ no_longer_key c d e w es both.1
+
+-- no sign has more than two characters
+no_longer_sign : (c d e : ℕ) (w : Text) → sign_of (c ∷ d ∷ e ∷ w) ≡ None
+unfolding at_most_two
+no_longer_sign c d e w = no_longer_key c d e w signs refl
 
 some_of : (o : Option Mark) → is_some o ≡ true → (k : Mark) × (o ≡ Some k)
 some_of None e = absurd (cc)
@@ -130,35 +148,74 @@ third_only : (c : ℕ) (cs : Text) → starts c ≡ false → is_digit c ≡ fal
 third_only c cs s d h =
     some_of (sign_of (c ∷ cs)) (only_third (starts c && list_all continues cs) (is_digit c && list_all is_digit cs) (is_some (sign_of (c ∷ cs))) h (ap (λ z. z && list_all continues cs) s) (ap (λ z. z && list_all is_digit cs) d))
 
-sign_longest : (c : ℕ) (w more : Text) (m : Mark) → starts c ≡ false → is_digit c ≡ false → sign_of (c ∷ w) ≡ Some m → is_spelling (c ∷ (w ++ more)) ≡ true → more ≡ []
-sign_longest c w [] m s d e h = refl
-sign_longest c w (x ∷ more) m s d e h = let k = third_only c (w ++ x ∷ more) s d h in sign_ends (c ∷ w) x more m k.0 e k.1
-
-longest_sign : (c : ℕ) (w rest : Text) (m : Mark) → starts c ≡ false → is_digit c ≡ false → sign_of (c ∷ w) ≡ Some m → Longest (c ∷ w) rest
-longest_sign c w rest m s d e = record {
+-- a sign is the longest token where what follows it makes no longer sign of it
+longest_sign : (c : ℕ) (w rest : Text) (m : Mark) → starts c ≡ false → is_digit c ≡ false → sign_of (c ∷ w) ≡ Some m
+    → ((more after : Text) (k : Mark) → rest ≡ more ++ after → sign_of (c ∷ (w ++ more)) ≡ Some k → more ≡ []) → Longest (c ∷ w) rest
+longest_sign c w rest m s d e longer = record {
   is = rw (s) (rw (d) (ap is_some e));
-  longest = λ more after f h. sign_longest c w more m s d e h;
+  longest = λ more after f h. let k = third_only c (w ++ more) s d h in longer more after k.0 f k.1;
 }
 
-sign_cut_whole : (w rest : Text) (m : Mark) (c : ℕ) (cs : Text) → w ++ rest ≡ c ∷ cs → starts c ≡ false → is_digit c ≡ false → sign_of w ≡ Some m → Longest w rest × (kind_of w ≡ Some (Sign m))
-sign_cut_whole [] rest m c cs t s d e = absurd (cc)
-sign_cut_whole (b ∷ w) rest m c cs t s d e =
-    let here : c ≡ b = cc in
-    let s' : starts b ≡ false = ap starts (sym here) ∙ s in
-    let d' : is_digit b ≡ false = ap is_digit (sym here) ∙ d in
-    let digits : is_digits (b ∷ w) ≡ false = ap (λ z. z && list_all is_digit w) d' in
-    let word : is_word (b ∷ w) ≡ false = ap (λ z. z && list_all continues w) s' in
-    let k : kind_of (b ∷ w) ≡ signed (sign_of (b ∷ w)) =
-    chosen_false (is_digits (b ∷ w)) (cond (nat_lt (value (b ∷ w)) (2 ^ 63)) (Some (Number (pos (value (b ∷ w))))) None) (cond (is_word (b ∷ w)) (cond (nat_le (bytes (b ∷ w)) 64) (Some (named (keyword (b ∷ w)))) None) (signed (sign_of (b ∷ w)))) digits
-    ∙ chosen_false (is_word (b ∷ w)) (cond (nat_le (bytes (b ∷ w)) 64) (Some (named (keyword (b ∷ w)))) None) (signed (sign_of (b ∷ w))) word in
-    (longest_sign b w rest m s' d' e, k ∙ ap signed e)
+sign_kind : (c : ℕ) (w : Text) (m : Mark) → starts c ≡ false → is_digit c ≡ false → sign_of (c ∷ w) ≡ Some m → kind_of (c ∷ w) ≡ Some (Sign m)
+sign_kind c w m s d e =
+    let digits : is_digits (c ∷ w) ≡ false = ap (λ z. z && list_all is_digit w) d in
+    let word : is_word (c ∷ w) ≡ false = ap (λ z. z && list_all continues w) s in
+    chosen_false (is_digits (c ∷ w)) (cond (nat_lt (value (c ∷ w)) (2 ^ 63)) (Some (Number (pos (value (c ∷ w))))) None) (cond (is_word (c ∷ w)) (cond (nat_le (bytes (c ∷ w)) 64) (Some (named (keyword (c ∷ w)))) None) (signed (sign_of (c ∷ w)))) digits
+    ∙ chosen_false (is_word (c ∷ w)) (cond (nat_le (bytes (c ∷ w)) 64) (Some (named (keyword (c ∷ w)))) None) (signed (sign_of (c ∷ w))) word
+    ∙ ap signed e
 
-pub sign_cut : (text : Text) (len : ℕ) (m : Mark) → BeginsOther text → len ≤ length text → sign_of (take len text) ≡ Some m → IsCut text (Token (Sign m) len)
-sign_cut text len m (c, cs, t, s, d) l e =
-    let x = sign_cut_whole (take len text) (drop len text) m c cs (take-append-drop len text ∙ t) s d e in
-    (drop len text, take len text, sym (take-append-drop len text), length-take-le len text l, x.0, x.1)
+-- two characters go on as no sign
+two_end : (c d : ℕ) (more : Text) (k : Mark) → sign_of (c ∷ d ∷ more) ≡ Some k → more ≡ []
+two_end c d [] k e = refl
+two_end c d (x ∷ more) k e = let n : None ≡ Some k = sym (no_longer_sign c d x more) ∙ e in absurd (cc)
 
-pub no_token : (text : Text) → BeginsOther text → ((word after : Text) → text ≡ word ++ after → sign_of word ≡ None) → IsCut text (NoToken BadByte)
+-- one character goes on as no sign where it makes none with the next
+one_ends : (c : ℕ) (rest more after : Text) (k : Mark) → ((d : ℕ) (ds : Text) → rest ≡ d ∷ ds → sign_of (c ∷ d ∷ []) ≡ None) → rest ≡ more ++ after → sign_of (c ∷ more) ≡ Some k → more ≡ []
+one_ends c rest [] after k alone f e = refl
+one_ends c rest (x ∷ []) after k alone f e = let n : None ≡ Some k = sym (alone x after f) ∙ e in absurd (cc)
+one_ends c rest (x ∷ y ∷ more) after k alone f e = let n : None ≡ Some k = sym (no_longer_sign c x y more) ∙ e in absurd (cc)
+
+double_cut : (c d : ℕ) (ds : Text) (m : Mark) → starts c ≡ false → is_digit c ≡ false → sign_of (c ∷ d ∷ []) ≡ Some m → IsCut (c ∷ d ∷ ds) (Token (Sign m) 2)
+double_cut c d ds m s g e =
+    (ds, c ∷ d ∷ [], refl, refl, longest_sign c (d ∷ []) ds m s g e (λ more after k f h. two_end c d more k h), sign_kind c (d ∷ []) m s g e)
+
+single_cut : (c : ℕ) (cs : Text) (m : Mark) → starts c ≡ false → is_digit c ≡ false → ((d : ℕ) (ds : Text) → cs ≡ d ∷ ds → sign_of (c ∷ d ∷ []) ≡ None) → sign_of (c ∷ []) ≡ Some m → IsCut (c ∷ cs) (Token (Sign m) 1)
+single_cut c cs m s g alone e =
+    (cs, c ∷ [], refl, refl, longest_sign c [] cs m s g e (λ more after k f h. one_ends c cs more after k alone f h), sign_kind c [] m s g e)
+
+sized_some : (n : ℕ) (k m : Mark) (len : ℕ) (other : Option (Mark × ℕ)) → sized_or n (Some k) other ≡ Some (m, len) → (k ≡ m) × (n ≡ len)
+sized_some n k m len other e = (ap (λ o. (unwrap_or {T = Mark × ℕ} o (m, len)).0) e, ap (λ o. (unwrap_or {T = Mark × ℕ} o (m, len)).1) e)
+
+-- what a single sign at the front says, and what it says that there is none
+from_single : (c : ℕ) (cs : Text) (m : Mark) (len : ℕ) → starts c ≡ false → is_digit c ≡ false → ((d : ℕ) (ds : Text) → cs ≡ d ∷ ds → sign_of (c ∷ d ∷ []) ≡ None)
+    → (o : Option Mark) → sign_of (c ∷ []) ≡ o → sized_or 1 o None ≡ Some (m, len) → IsCut (c ∷ cs) (Token (Sign m) len)
+from_single c cs m len s g alone (Some k) e f =
+    let same : k ≡ m = (sized_some 1 k m len None f).0 in
+    let size : 1 ≡ len = (sized_some 1 k m len None f).1 in
+    subst (λ n. IsCut (c ∷ cs) (Token (Sign m) n)) size (subst (λ z. IsCut (c ∷ cs) (Token (Sign z) 1)) same (single_cut c cs k s g alone e))
+from_single c cs m len s g alone None e f = absurd (cc)
+
+from_double : (c d : ℕ) (ds : Text) (m : Mark) (len : ℕ) → starts c ≡ false → is_digit c ≡ false
+    → (o : Option Mark) → sign_of (c ∷ d ∷ []) ≡ o → sized_or 2 o (sized_or 1 (sign_of (c ∷ [])) None) ≡ Some (m, len) → IsCut (c ∷ d ∷ ds) (Token (Sign m) len)
+from_double c d ds m len s g (Some k) e f =
+    let same : k ≡ m = (sized_some 2 k m len (sized_or 1 (sign_of (c ∷ [])) None) f).0 in
+    let size : 2 ≡ len = (sized_some 2 k m len (sized_or 1 (sign_of (c ∷ [])) None) f).1 in
+    subst (λ n. IsCut (c ∷ d ∷ ds) (Token (Sign m) n)) size (subst (λ z. IsCut (c ∷ d ∷ ds) (Token (Sign z) 2)) same (double_cut c d ds k s g e))
+from_double c d ds m len s g None e f = from_single c (d ∷ ds) m len s g alone (sign_of (c ∷ [])) refl f
+  where
+    alone : (x : ℕ) (xs : Text) → d ∷ ds ≡ x ∷ xs → sign_of (c ∷ x ∷ []) ≡ None
+    alone x xs h = let same : d ≡ x = cc in ap (λ z. sign_of (c ∷ z ∷ [])) (sym same) ∙ e
+
+cut_front : (c : ℕ) (cs : Text) (m : Mark) (len : ℕ) → starts c ≡ false → is_digit c ≡ false → front_sign (c ∷ cs) ≡ Some (m, len) → IsCut (c ∷ cs) (Token (Sign m) len)
+cut_front c [] m len s g f = from_single c [] m len s g (λ d ds h. absurd (cc)) (sign_of (c ∷ [])) refl f
+cut_front c (d ∷ ds) m len s g f = from_double c d ds m len s g (sign_of (c ∷ d ∷ [])) refl f
+
+-- The sign at the front is the longest token.
+pub sign_cut : (text : Text) (m : Mark) (len : ℕ) → BeginsOther text → front_sign text ≡ Some (m, len) → IsCut text (Token (Sign m) len)
+sign_cut text m len (c, cs, t, s, d) e =
+    subst (λ z. IsCut z (Token (Sign m) len)) (sym t) (cut_front c cs m len s d (ap front_sign (sym t) ∙ e))
+
+no_token : (text : Text) → BeginsOther text → ((word after : Text) → text ≡ word ++ after → sign_of word ≡ None) → IsCut text (NoToken BadByte)
 no_token text (c, cs, t, s, d) none = (not_nil, λ word rest e h. begun word rest e h)
   where
     not_nil : text ≡ [] → ⊥
@@ -170,6 +227,32 @@ no_token text (c, cs, t, s, d) none = (not_nil, λ word rest e h. begun word res
         let here : c ≡ b = let f : c ∷ cs ≡ b ∷ (word ++ rest) = sym t ∙ e in cc in
         let k = third_only b word (ap starts (sym here) ∙ s) (ap is_digit (sym here) ∙ d) h in
         let n : None ≡ Some k.0 = sym (none (b ∷ word) rest e) ∙ k.1 in absurd (cc)
+
+sized_none : (n : ℕ) (o : Option Mark) (other : Option (Mark × ℕ)) → sized_or n o other ≡ None → (o ≡ None) × (other ≡ None)
+sized_none n (Some m) other e = absurd (cc)
+sized_none n None other e = (refl, e)
+
+-- where no sign stands at the front, no front is a sign
+no_sign_front : (c : ℕ) (cs word after : Text) → front_sign (c ∷ cs) ≡ None → c ∷ cs ≡ word ++ after → sign_of word ≡ None
+no_sign_front c cs [] after f e = refl
+no_sign_front c [] (b ∷ []) after f e =
+    let here : c ≡ b = cc in
+    ap (λ z. sign_of (z ∷ [])) (sym here) ∙ (sized_none 1 (sign_of (c ∷ [])) None f).0
+no_sign_front c (d ∷ ds) (b ∷ []) after f e =
+    let here : c ≡ b = cc in
+    let single = (sized_none 2 (sign_of (c ∷ d ∷ [])) (sized_or 1 (sign_of (c ∷ [])) None) f).1 in
+    ap (λ z. sign_of (z ∷ [])) (sym here) ∙ (sized_none 1 (sign_of (c ∷ [])) None single).0
+no_sign_front c [] (b ∷ x ∷ []) after f e = absurd (cc)
+no_sign_front c (d ∷ ds) (b ∷ x ∷ []) after f e =
+    let here : c ≡ b = cc in
+    let next : d ≡ x = cc in
+    ap (λ z. sign_of (z ∷ x ∷ [])) (sym here) ∙ ap (λ z. sign_of (c ∷ z ∷ [])) (sym next) ∙ (sized_none 2 (sign_of (c ∷ d ∷ [])) (sized_or 1 (sign_of (c ∷ [])) None) f).0
+no_sign_front c cs (b ∷ x ∷ y ∷ word) after f e = no_longer_sign b x y word
+
+-- Where no sign stands at the front, no token begins.
+pub no_sign_cut : (text : Text) → BeginsOther text → front_sign text ≡ None → IsCut text (NoToken BadByte)
+no_sign_cut text (c, cs, t, s, d) e =
+    no_token text (c, cs, t, s, d) (λ word after h. no_sign_front c cs word after (ap front_sign (sym t) ∙ e) (sym t ∙ h))
 
 -- no more characters than bytes
 pub few_chars : (w : Text) → length w ≤ bytes w

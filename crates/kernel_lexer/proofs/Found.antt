@@ -6,13 +6,13 @@ use Rattle.std.specs.Prelude.{Result, Ok, Err, IfErr}
 use Rattle.std.specs.Str.{chars}
 use Rattle.kernel_lexer.specs.declared.token.TokenKind.{TokenKind}
 use Rattle.kernel_lexer.specs.declared.token.Token.{Token as Spot}
-use Rattle.kernel_lexer.specs.declared.cut.Fault.{Fault}
+use Rattle.kernel_lexer.specs.declared.cut.TokenRule.{TokenRule}
 use Rattle.kernel_lexer.specs.declared.cut.Cut.TheVariants.{Token}
 use Rattle.kernel_lexer.specs.declared.lex_end.LexEnd.{LexEnd}
 use Rattle.kernel_lexer.specs.declared.lex_end.LexEnd.TheVariants as ends
 use Rattle.kernel_lexer.specs.Spelling.{Text, bytes, Longest, kind_of}
 use Rattle.kernel_lexer.specs.Lexing.{AreTokens, Begins, FaultAfter, IsFaultOf, skip}
-use Rattle.kernel_lexer.specs.Cutting.{IsCut, EndMeans, FrontEnd}
+use Rattle.kernel_lexer.specs.Cutting.{IsCut, CharsEnd, FrontEnd}
 use Rattle.kernel_lexer.proofs.Cuts.{bytes-append}
 
 -- Whatever tokens or fault what is left has, the text has after those that were found.
@@ -20,12 +20,12 @@ pub record Leads (text : Text) (found : List Spot) (rest : Text) : Type 0 where
   pub from : Text
   pub is : rest ≡ skip false from
   pub tokens : (ts : List Spot) → AreTokens (bytes text) from ts → AreTokens (bytes text) text (found ++ ts)
-  pub fault : (ts : List Spot) (fault : Fault) (left : Text) → FaultAfter (bytes text) from ts fault left → FaultAfter (bytes text) text (found ++ ts) fault left
+  pub fault : (ts : List Spot) (fault : TokenRule) (left : Text) → FaultAfter (bytes text) from ts fault left → FaultAfter (bytes text) text (found ++ ts) fault left
 
 pub leads_end : (text : Text) (found : List Spot) → Leads text found [] → AreTokens (bytes text) text found
 leads_end text found l = subst (AreTokens (bytes text) text) (append-nil found) (l.tokens [] (sym l.is))
 
-pub leads_fault : (text : Text) (found : List Spot) (rest : Text) (f : Fault) → Leads text found rest → IsFaultOf f rest → FaultAfter (bytes text) text (found ++ []) f rest
+pub leads_fault : (text : Text) (found : List Spot) (rest : Text) (f : TokenRule) → Leads text found rest → IsFaultOf f rest → FaultAfter (bytes text) text (found ++ []) f rest
 leads_fault text found rest f l h = l.fault [] f rest (sym l.is, h)
 
 module _ (text : Text) (found : List Spot) (rest behind : Text) (t : Spot) (l : Leads text found rest) (word : Text) (e : rest ≡ word ++ behind) (longest : Longest word behind) (kinds : kind_of word ≡ Some t.kind) (f : t.from ≡ bytes text - bytes rest) (u : t.to ≡ bytes text - bytes behind) where
@@ -58,11 +58,11 @@ leads_step text found rest front behind kind len at n l c p f b e =
 
 -- ---- the characters of a text
 
-front_end : (text front : Text) (e : LexEnd) → text ≡ chars front → bytes text ≡ length front → EndMeans text e → FrontEnd front e
+front_end : (text front : Text) (e : LexEnd) → text ≡ chars front → bytes text ≡ length front → CharsEnd text e → FrontEnd front e
 front_end text front ends.NoMemory p q h = tt
 front_end text front (ends.Fault code at) p q (f, ts, left, h, c, a) =
     (f, ts, left, subst (λ n. FaultAfter n (chars front) ts f left) q (subst (λ z. FaultAfter (bytes text) z ts f left) p h), c, a ∙ ap (λ n. n - bytes left) q)
 
-pub front_err : {A : Type 0} (r : Result A LexEnd) (text front : Text) → text ≡ chars front → bytes text ≡ length front → IfErr r (EndMeans text) → IfErr r (FrontEnd front)
+pub front_err : {A : Type 0} (r : Result A LexEnd) (text front : Text) → text ≡ chars front → bytes text ≡ length front → IfErr r (CharsEnd text) → IfErr r (FrontEnd front)
 front_err (Ok a) text front p q h = tt
 front_err (Err e) text front p q h = front_end text front e p q h

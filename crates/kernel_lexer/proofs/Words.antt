@@ -1,10 +1,15 @@
 -- Words and digits that are as long as they can be, and that the longest token at a front is one.
-use Rattle.std.proofs.Common.{◌≡◌, ℕ, Bool, true, false, cond, eqb, [], ◌∷◌, ◌++◌, Option, Some, None, refl, sym, ap, ◌∙◌, inl, inr, ◌⊎◌, ⊎_elim, append-nil}
+use Rattle.std.proofs.Common.{◌≡◌, ℕ, Bool, true, false, cond, eqb, List, [], ◌∷◌, ◌++◌, Some, None, refl, sym, ap, ◌∙◌, inl, inr, ◌⊎◌, ⊎_elim, append-nil, arith}
 use Rattle.std.specs.Prelude.{◌&&◌, ◌||◌}
 use Rattle.std.specs.Prelude.{is_some}
+use Rattle.std.specs.List.{list_any}
+use Rattle.std.specs.Map.{lookup}
+use Rattle.std.specs.Str.{bytes_eq}
+use Rattle.std.proofs.lemmas.Bool.Decides.{nat_tests}
 use Rattle.kernel_lexer.specs.declared.token.Mark.{Mark}
 use Rattle.std.specs.List.{list_all}
-use Rattle.kernel_lexer.specs.Spelling.{Text, is_digit, starts, continues, mark_of, sign_of, is_spelling, Longest}
+use Rattle.kernel_lexer.specs.Spelling.{Text, is_digit, starts, continues, signs, sign_of, is_spelling, Longest}
+use Rattle.kernel_lexer.specs.Lexing.{begins}
 use Rattle.kernel_lexer.specs.Cutting.{run, past, begins_sign}
 
 pub run_past : (p : ℕ → Bool) (cs : Text) → cs ≡ run p cs ++ past p cs
@@ -49,15 +54,23 @@ neither : (a b : Bool) → (a || b) ≡ false → (a ≡ false) × (b ≡ false)
 neither true b e = absurd (cc)
 neither false b e = (refl, e)
 
-none_of : (o : Option Mark) → is_some o ≡ false → o ≡ None
-none_of None e = refl
-none_of (Some m) e = absurd (cc)
+-- a key that begins with another character is not spelled
+another_key : (c : ℕ) (cs key : Text) → begins c key ≡ false → bytes_eq (c ∷ cs) key ≡ false
+another_key c cs [] h = refl
+another_key c cs (d ∷ key) h =
+    let turned : eqb c d ≡ eqb d c = grind (arith, nat_tests) in
+    ap (λ b. b && bytes_eq cs key) (turned ∙ h)
+
+-- what begins none of the keys spells none of them
+no_key_spelled : (c : ℕ) (cs : Text) (es : List (Text × Mark)) → list_any (λ k. begins c k.0) es ≡ false → lookup (λ k. bytes_eq (c ∷ cs) k) es ≡ None
+no_key_spelled c cs [] h = refl
+no_key_spelled c cs (e ∷ es) h =
+    let none = neither (begins c e.0) (list_any (λ k. begins c k.0) es) h in
+    ap (λ b. cond b (Some e.1) (lookup (λ k. bytes_eq (c ∷ cs) k) es)) (another_key c cs e.0 none.0) ∙ no_key_spelled c cs es none.1
 
 -- what begins no sign spells none
 pub no_sign : (c : ℕ) (cs : Text) → begins_sign c ≡ false → sign_of (c ∷ cs) ≡ None
-no_sign c [] h = none_of (mark_of c) (neither (is_some (mark_of c)) (eqb c 46) h).0
-no_sign c (d ∷ []) h = rw ((neither (is_some (mark_of c)) (eqb c 46) h).1) refl
-no_sign c (d ∷ e ∷ cs) h = refl
+no_sign c cs h = no_key_spelled c cs signs h
 
 only_first : (a b c : Bool) → (a || (b || c)) ≡ true → b ≡ false → c ≡ false → a ≡ true
 only_first true b c h e f = refl

@@ -7,7 +7,7 @@ use Rattle.unicode_ident.specs.Ident.{is_xid_start, is_xid_continue}
 use Rattle.kernel_lexer.specs.declared.token.Keyword.{Keyword}
 use Rattle.kernel_lexer.specs.declared.token.Keyword.TheVariants.{Kernel, Input, Output, Temp, Loop, Min, Max, Sel, Mad, If, Else, By}
 use Rattle.kernel_lexer.specs.declared.token.Mark.{Mark}
-use Rattle.kernel_lexer.specs.declared.token.Mark.TheVariants.{OpenBrace, CloseBrace, OpenBracket, CloseBracket, OpenParen, CloseParen, Semicolon, Comma, Assign, Dots, Plus, Minus, Star, And, Or, Xor}
+use Rattle.kernel_lexer.specs.declared.token.Mark.TheVariants.{OpenBrace, CloseBrace, OpenBracket, CloseBracket, OpenParen, CloseParen, Semicolon, Comma, Assign, Dots, Plus, Minus, Star, And, Or, Xor, Same, Differs, Less, AtMost, More, AtLeast}
 use Rattle.kernel_lexer.specs.declared.token.TokenKind.{TokenKind}
 use Rattle.kernel_lexer.specs.declared.token.TokenKind.TheVariants.{Name, Number, Word, Sign}
 
@@ -43,22 +43,17 @@ abbrev pub is_digits : Text → Bool
 is_digits [] = false
 is_digits (c ∷ cs) = list_all is_digit (c ∷ cs)
 
--- the signs of one character: { } [ ] ( ) ; , = + - * & | ^
-abbrev pub signs : List (ℕ × Mark)
+-- the signs
+abbrev pub signs : List (Text × Mark)
 signs =
-    (123, OpenBrace) ∷ (125, CloseBrace) ∷ (91, OpenBracket) ∷ (93, CloseBracket) ∷ (40, OpenParen) ∷ (41, CloseParen) ∷ (59, Semicolon) ∷ (44, Comma)
-    ∷ (61, Assign) ∷ (43, Plus) ∷ (45, Minus) ∷ (42, Star) ∷ (38, And) ∷ (124, Or) ∷ (94, Xor) ∷ []
+    (codes "{", OpenBrace) ∷ (codes "}", CloseBrace) ∷ (codes "[", OpenBracket) ∷ (codes "]", CloseBracket) ∷ (codes "(", OpenParen) ∷ (codes ")", CloseParen)
+    ∷ (codes ";", Semicolon) ∷ (codes ",", Comma) ∷ (codes "=", Assign) ∷ (codes "..", Dots) ∷ (codes "+", Plus) ∷ (codes "-", Minus) ∷ (codes "*", Star)
+    ∷ (codes "&", And) ∷ (codes "|", Or) ∷ (codes "^", Xor) ∷ (codes "==", Same) ∷ (codes "!=", Differs) ∷ (codes "<", Less) ∷ (codes "<=", AtMost)
+    ∷ (codes ">", More) ∷ (codes ">=", AtLeast) ∷ []
 
--- the sign of one character
-abbrev pub mark_of : ℕ → Option Mark
-mark_of c = lookup (λ k. c == k) signs
-
--- the sign that characters spell: one of those, or two points
+-- the sign that characters spell
 abbrev pub sign_of : Text → Option Mark
-sign_of [] = None
-sign_of (c ∷ []) = mark_of c
-sign_of (c ∷ d ∷ []) = if (c == 46) && (d == 46) then Some Dots else None
-sign_of (c ∷ d ∷ e ∷ cs) = None
+sign_of w = lookup (λ k. bytes_eq w k) signs
 
 -- the characters of a token: a word, digits or a sign
 abbrev pub is_spelling : Text → Bool

@@ -1,8 +1,8 @@
 -- The tokens of a text of bytes, and its first fault with its code and place. This project's convention.
 use Rattle.std.specs.Str.{chars, IsUtf8, IsValidUpTo}
 use Rattle.std.specs.Prelude.{◌⊎◌, take, ◌≡◌, ℕ, ◌-◌, List, length}
-use Rattle.kernel_lexer.specs.declared.cut.Fault.{Fault}
-use Rattle.kernel_lexer.specs.declared.cut.Fault.TheVariants.{BadByte, TooBig}
+use Rattle.kernel_lexer.specs.declared.cut.TokenRule.{TokenRule}
+use Rattle.kernel_lexer.specs.declared.cut.TokenRule.TheVariants.{BadByte, TooBig}
 use Rattle.kernel_lexer.specs.declared.token.Token.{Token}
 use Rattle.kernel_lexer.specs.declared.lex_end.LexEnd.{LexEnd}
 use Rattle.kernel_lexer.specs.declared.lex_end.LexEnd.TheVariants as ends
@@ -10,7 +10,7 @@ use Rattle.kernel_lexer.specs.Spelling.{Text, bytes}
 use Rattle.kernel_lexer.specs.Lexing.{AreTokens, FaultAfter}
 
 -- the numbers of the faults
-abbrev pub code_of : Fault → ℕ
+abbrev pub code_of : TokenRule → ℕ
 code_of BadByte = 1
 code_of TooBig = 2
 
@@ -25,7 +25,7 @@ IsFront text n = (IsUtf8 text × (n ≡ length text)) ⊎ IsValidUpTo text n
 -- The first fault of characters that have so many bytes: its code and its place.
 abbrev pub IsFirstFault : ℕ → Text → ℕ → ℕ → Type 0
 IsFirstFault end text code at =
-    (fault : Fault) × (ts : List Token) × (left : Text) × FaultAfter end text ts fault left × (code ≡ code_of fault) × (at ≡ end - bytes left)
+    (fault : TokenRule) × (ts : List Token) × (left : Text) × FaultAfter end text ts fault left × (code ≡ code_of fault) × (at ≡ end - bytes left)
 
 -- The first fault of a text: it stands in the front that is UTF-8, or that front has none and ends before the text.
 abbrev pub IsTextFault : List ℕ → ℕ → ℕ → Type 0

@@ -1,25 +1,24 @@
 //! The token at the front of a list of characters.
 
-ghost use Rattle.std.specs.Prelude.{◌∷◌, ◌++◌, ◌^◌, pos, IfSome, IfNone, IsTrue, ◌≡◌, ◌≤◌, ◌<◌, ℕ, length, take, true, false};
+ghost use Rattle.std.specs.Prelude.{◌∷◌, [], ◌^◌, pos, IfSome, IfNone, IsTrue, ◌≡◌, ◌≤◌, ◌<◌, length, true, false};
 ghost use Rattle.std.specs.List.{list_all};
 ghost use Rattle.kernel_lexer.specs.Spelling as spelling;
-ghost use Rattle.kernel_lexer.specs.Spelling.{Text};
 ghost use Rattle.kernel_lexer.specs.Lexing as lexing;
-ghost use Rattle.kernel_lexer.specs.Cutting.{IsCut, BeginsWord, BeginsNumber, BeginsOther};
+ghost use Rattle.kernel_lexer.specs.Cutting.{IsCut, BeginsWord, BeginsNumber, BeginsOther, front_sign, sized_or};
 
 use crate::scan::{byte_len, digits_len, is_digit, starts, word_len};
 use crate::token::{Keyword, Mark, TokenKind};
 
 /// Why no token is cut.
 #[derive(Clone, Copy, Debug)]
-pub enum Fault {
+pub enum TokenRule {
     /// No token begins here.
     BadByte,
     /// The token is too big.
     TooBig,
 }
 
-impl Fault {
+impl TokenRule {
     ghost use Rattle.std.specs.Prelude.{◌≡◌};
     ghost use Rattle.kernel_lexer.specs.Texts as texts;
 
@@ -28,8 +27,8 @@ impl Fault {
         ensures { result ≡ texts.code_of self }
     {
         match self {
-            Fault::BadByte => 1,
-            Fault::TooBig => 2,
+            TokenRule::BadByte => 1,
+            TokenRule::TooBig => 2,
         }
     }
 }
@@ -40,12 +39,12 @@ pub enum Cut {
     /// A token of so many characters.
     Token(TokenKind, usize),
     /// No token.
-    NoToken(Fault),
+    NoToken(TokenRule),
 }
 
 /// The sign of one character.
-fn mark(c: char) -> Option<Mark>
-    ensures { result ≡ spelling.mark_of c }
+fn single(c: char) -> Option<Mark>
+    ensures { result ≡ spelling.sign_of (c ∷ []) }
 {
     match c {
         '{' => Some(Mark::OpenBrace),
@@ -63,6 +62,22 @@ fn mark(c: char) -> Option<Mark>
         '&' => Some(Mark::And),
         '|' => Some(Mark::Or),
         '^' => Some(Mark::Xor),
+        '<' => Some(Mark::Less),
+        '>' => Some(Mark::More),
+        _ => None,
+    }
+}
+
+/// The sign of two characters.
+fn double(c: char, d: char) -> Option<Mark>
+    ensures { result ≡ spelling.sign_of (c ∷ d ∷ []) }
+{
+    match (c, d) {
+        ('.', '.') => Some(Mark::Dots),
+        ('=', '=') => Some(Mark::Same),
+        ('!', '=') => Some(Mark::Differs),
+        ('<', '=') => Some(Mark::AtMost),
+        ('>', '=') => Some(Mark::AtLeast),
         _ => None,
     }
 }
@@ -134,7 +149,7 @@ fn cut_word(rest: &[char]) -> Cut
     if byte_len(word) <= 64 {
         Cut::Token(word_kind(word), len)
     } else {
-        Cut::NoToken(Fault::TooBig)
+        Cut::NoToken(TokenRule::TooBig)
     }
 }
 
@@ -145,21 +160,30 @@ fn cut_number(rest: &[char]) -> Cut
     let len = digits_len(rest);
     match value(&rest[..len]) {
         Some(n) => Cut::Token(TokenKind::Number(n), len),
-        None => Cut::NoToken(Fault::TooBig),
+        None => Cut::NoToken(TokenRule::TooBig),
     }
 }
 
-/// A sign, and how many characters it has.
+/// A sign with its number of characters.
+fn sized(mark: Option<Mark>, len: usize) -> Option<(Mark, usize)>
+    ensures { result ≡ sized_or len mark None }
+{
+    match mark {
+        Some(mark) => Some((mark, len)),
+        None => None,
+    }
+}
+
+/// The sign at the front, and how many characters it has: two where they are a sign, or else one.
 fn sign(rest: &[char]) -> Option<(Mark, usize)>
-    ensures some { IfSome result (λ s. (s.1 ≤ length rest.now) × (spelling.sign_of (take s.1 rest.now) ≡ Some s.0)) }
-    ensures none { IfNone result ((word after : Text) → rest.now ≡ word ++ after → spelling.sign_of word ≡ None) }
+    ensures { result ≡ front_sign rest.now }
 {
     match rest {
         [] => None,
-        ['.', '.', ..] => Some((Mark::Dots, 2)),
-        [c, ..] => match mark(*c) {
-            Some(mark) => Some((mark, 1)),
-            None => None,
+        [c] => sized(single(*c), 1),
+        [c, d, ..] => match double(*c, *d) {
+            Some(mark) => Some((mark, 2)),
+            None => sized(single(*c), 1),
         },
     }
 }
@@ -170,7 +194,7 @@ fn cut_sign(rest: &[char]) -> Cut
 {
     match sign(rest) {
         Some((mark, len)) => Cut::Token(TokenKind::Sign(mark), len),
-        None => Cut::NoToken(Fault::BadByte),
+        None => Cut::NoToken(TokenRule::BadByte),
     }
 }
 

@@ -4,10 +4,10 @@ ghost use Rattle.std.specs.Str.{chars};
 ghost use Rattle.std.specs.Prelude.{take, ℕ, ◌≤◌, ◌≡◌, ◌<◌, ◌^◌, ◌++◌, ◌∷◌, [], OnOk, length, IfOk, IfErr};
 ghost use Rattle.kernel_lexer.specs.Spelling.{bytes};
 ghost use Rattle.kernel_lexer.specs.Lexing.{AreTokens};
-ghost use Rattle.kernel_lexer.specs.Cutting.{EndMeans, FrontEnd};
-ghost use Rattle.kernel_lexer.specs.Texts.{IsFront, AreTextTokens, TextEnd};
+ghost use Rattle.kernel_lexer.specs.Cutting.{CharsEnd, FrontEnd};
+ghost use Rattle.kernel_lexer.specs.Texts.{IsFront, AreTextTokens, IsTextFault, TextEnd};
 
-use crate::cut::{Cut, Fault, cut_token};
+use crate::cut::{Cut, TokenRule, cut_token};
 use crate::lex_end::LexEnd;
 use crate::scan::{byte_len, skip};
 use crate::token::Token;
@@ -26,7 +26,7 @@ fn tokens_of(alloc: Global, text: &[char]) -> Result<Vec<Token>, LexEnd>
     requires few { length text.now < 2 ^ 17 }
     requires small { bytes text.now < 2 ^ 17 }
     ensures tokens { IfOk result (λ v. AreTokens (bytes text.now) text.now v.items) }
-    ensures fault { IfErr result (EndMeans text.now) }
+    ensures fault { IfErr result (CharsEnd text.now) }
 {
     let mut found = Vec::new(alloc);
     let (mut rest, mut at) = skip(text, 0);
@@ -89,6 +89,17 @@ fn tokens_of_front(alloc: Global, front: &str) -> Result<Vec<Token>, LexEnd>
 pub fn tokens(alloc: Global, text: &[u8]) -> Result<Vec<Token>, LexEnd>
     requires { length text.now ≤ 65536 }
     ensures tokens { IfOk result (λ v. AreTextTokens text.now v.items) }
+    ensures faultless { IfOk result (λ _. (code at : ℕ) → IsTextFault text.now code at → ⊥) }
+    ensures fault { IfErr result (TextEnd text.now) }
+{
+    let found = tokens_of_text(alloc, text)?;
+    Ok(found)
+}
+
+// The tokens of a text, or its first fault.
+fn tokens_of_text(alloc: Global, text: &[u8]) -> Result<Vec<Token>, LexEnd>
+    requires { length text.now ≤ 65536 }
+    ensures tokens { IfOk result (λ v. AreTextTokens text.now v.items) }
     ensures fault { IfErr result (TextEnd text.now) }
 {
     let front = front(text);
@@ -97,7 +108,7 @@ pub fn tokens(alloc: Global, text: &[u8]) -> Result<Vec<Token>, LexEnd>
         Ok(found)
     } else {
         Err(LexEnd::Fault {
-            code: Fault::BadByte.code(),
+            code: TokenRule::BadByte.code(),
             at: front.len() as u32,
         })
     }

@@ -76,6 +76,20 @@ fn words_and_signs(rt: HostRuntime) -> Result<(), Fail> {
         (TokenKind::Sign(Mark::Xor), 16, 17),
     ];
     reads(&rt, rt.alloc(), b"{}[]();,=..+-*&|^", &signs);
+    let relations = [
+        (TokenKind::Sign(Mark::Same), 0, 2),
+        (TokenKind::Sign(Mark::Differs), 3, 5),
+        (TokenKind::Sign(Mark::Less), 6, 7),
+        (TokenKind::Sign(Mark::AtMost), 8, 10),
+        (TokenKind::Sign(Mark::More), 11, 12),
+        (TokenKind::Sign(Mark::AtLeast), 13, 15),
+        (TokenKind::Sign(Mark::Same), 15, 17),
+        (TokenKind::Sign(Mark::Assign), 17, 18),
+        (TokenKind::Sign(Mark::More), 18, 19),
+        (TokenKind::Sign(Mark::Less), 19, 20),
+        (TokenKind::Sign(Mark::AtMost), 20, 22),
+    ];
+    reads(&rt, rt.alloc(), b"== != < <= > >====><<=", &relations);
     Ok(())
 }
 
@@ -114,10 +128,13 @@ fn names_and_numbers(rt: HostRuntime) -> Result<(), Fail> {
 
 #[test]
 fn faults(rt: HostRuntime) -> Result<(), Fail> {
-    let cases: [(&[u8], u8, u32); 20] = [
+    let cases: [(&[u8], u8, u32); 23] = [
         (b"a.b", 1, 1),
         (b"...", 1, 2),
         (b"a / b", 1, 2),
+        (b"a ! b", 1, 2),
+        (b"a=!", 1, 2),
+        (b"!!=", 1, 0),
         (b"a // \xff", 1, 5),
         (b"\xce", 1, 0),
         (b"ab\xe4\xb8", 1, 2),

@@ -1,6 +1,6 @@
 //! Tokens: what they are and where they stand.
 
-/// A reserved word. The last three, `if`, `else` and `by`, occur in no kernel: they are kept for later.
+/// A reserved word.
 #[derive(Clone, Copy, Debug, PartialEq, Eq)]
 pub enum Keyword {
     /// `kernel`
@@ -64,6 +64,18 @@ pub enum Mark {
     Or,
     /// `^`
     Xor,
+    /// `==`
+    Same,
+    /// `!=`
+    Differs,
+    /// `<`
+    Less,
+    /// `<=`
+    AtMost,
+    /// `>`
+    More,
+    /// `>=`
+    AtLeast,
 }
 
 /// What a token is.

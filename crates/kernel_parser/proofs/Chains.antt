@@ -9,8 +9,8 @@ use Rattle.kernel_parser.specs.Tokens.{tag, sign, rank_of, is_operator}
 use Rattle.kernel_parser.specs.Trees as tree
 use Rattle.kernel_parser.specs.Grammar.{Linked, Ranked, Bracket, Brackets}
 use Rattle.kernel_parser.specs.Parsing.{linked, ranked, bracket, brackets, last}
-use Rattle.kernel_parser.proofs.KindTests.{sample, one_step, implied, In, by_kind, rank_at, no_rank}
-use Rattle.word_grammar.specs.declared.fault.Fault.{Fault}
+use Rattle.kernel_parser.proofs.KindTests.{kinds, sample, one_step, implied, In, by_kind, rank_at, no_rank}
+use Rattle.word_grammar.specs.declared.fault.GrammarFault.{GrammarFault}
 use Rattle.word_grammar.specs.Phrases.{Phrase, One, Both, Maybe}
 use Rattle.word_grammar.specs.Readers.{Reader, sees}
 use Rattle.word_grammar.proofs.Parts.{Begins, Leads, Ends, and_whole}
@@ -33,10 +33,10 @@ plain F t f e zero = f
 plain F t f e (suc rank) = and_whole (After F rank (Some t)) (eqb (rank_of t.kind) (suc rank)) (plain F t f e rank) (ap (λ n. eqb n (suc rank)) e ∙ eqb-zero-suc rank)
 
 -- a token of a class without operators may follow each chain of an index, and of an expression where it is no bracket
-pub after_index : (class : ℕ → Bool) → implied class (λ n. eqb (rank_at n) 0) true 30 ≡ true → (rank : ℕ) (t : Token) → In class t → After any rank (Some t) ≡ true
+pub after_index : (class : ℕ → Bool) → implied class (λ n. eqb (rank_at n) 0) true kinds ≡ true → (rank : ℕ) (t : Token) → In class t → After any rank (Some t) ≡ true
 after_index class e rank t c = plain any t refl (no_rank class e t c) rank
 
-pub after_expr : (class : ℕ → Bool) → implied class (λ n. eqb (rank_at n) 0) true 30 ≡ true → implied class (λ n. eqb n 16) false 30 ≡ true → (rank : ℕ) (t : Token) → In class t → After after_place rank (Some t) ≡ true
+pub after_expr : (class : ℕ → Bool) → implied class (λ n. eqb (rank_at n) 0) true kinds ≡ true → implied class (λ n. eqb n 16) false kinds ≡ true → (rank : ℕ) (t : Token) → In class t → After after_place rank (Some t) ≡ true
 after_expr class e f rank t c = plain after_place t (and_whole true (eqb (tag t.kind) 16) refl (by_kind class (λ n. eqb n 16) false f t c)) (no_rank class e t c) rank
 
 -- each operator may follow an operand
@@ -76,10 +76,10 @@ operator (suc (suc (suc (suc zero)))) h = (sample (k.Sign m.Or), refl)
 operator (suc (suc (suc (suc (suc rank))))) h = absurd (omega arith)
 
 module _ {E L : Type 0} (link : Token × E → L) (chain : E × List L → E) where
-  linked_step : (c : Fault) (rank : ℕ) → suc rank ≤ 5 → {F : Option Token → Bool} {p p' : Reader Token E} {R R' R⁺ : Phrase Token E} → Step c F p p' R R' R⁺ → Step c F (linked link (suc rank) p) (linked link (suc rank) p') (Linked link (suc rank) R) (Linked link (suc rank) R') (Linked link (suc rank) R⁺)
+  linked_step : (c : GrammarFault) (rank : ℕ) → suc rank ≤ 5 → {F : Option Token → Bool} {p p' : Reader Token E} {R R' R⁺ : Phrase Token E} → Step c F p p' R R' R⁺ → Step c F (linked link (suc rank) p) (linked link (suc rank) p') (Linked link (suc rank) R) (Linked link (suc rank) R') (Linked link (suc rank) R⁺)
   linked_step c rank l {F = F} {R = R} {R' = R'} x = let o = operator rank l in step_made link (step_both (free F R) (free F R') (step_one c (is_operator (suc rank)) o.0 o.1) x)
 
-  pub ranked_step : (c : Fault) (F : Option Token → Bool) → PassesOperators F → (rank : ℕ) → rank ≤ 5 → {p p' : Reader Token E} {R R' R⁺ : Phrase Token E} → Step c F p p' R R' R⁺ → Step c (After F rank) (ranked link chain rank p) (ranked link chain rank p') (Ranked link chain rank R) (Ranked link chain rank R') (Ranked link chain rank R⁺)
+  pub ranked_step : (c : GrammarFault) (F : Option Token → Bool) → PassesOperators F → (rank : ℕ) → rank ≤ 5 → {p p' : Reader Token E} {R R' R⁺ : Phrase Token E} → Step c F p p' R R' R⁺ → Step c (After F rank) (ranked link chain rank p) (ranked link chain rank p') (Ranked link chain rank R) (Ranked link chain rank R') (Ranked link chain rank R⁺)
   ranked_step c F h zero l x = x
   ranked_step c F h (suc rank) l {R = R} {R' = R'} x =
       let y = ranked_step c F h rank (omega arith) x in
@@ -91,7 +91,7 @@ module _ {E L : Type 0} (link : Token × E → L) (chain : E × List L → E) wh
 pub bracket_starts : {A B : Type 0} (make : Token × (A × Token) → B) (R : Phrase Token A) → Starts (λ t. sign m.OpenBracket t ≡ true) (Bracket make R)
 bracket_starts make R = first_starts (sign m.OpenBracket) make (Both R (One (sign m.CloseBracket)))
 
-pub bracket_step : {A B : Type 0} (make : Token × (A × Token) → B) (c : Fault) (F : Option Token → Bool) → Leads F any (One (sign m.CloseBracket)) → {p p' : Reader Token A} {R R' R⁺ : Phrase Token A} → Step c F p p' R R' R⁺ → Step c any (bracket make p) (bracket make p') (Bracket make R) (Bracket make R') (Bracket make R⁺)
+pub bracket_step : {A B : Type 0} (make : Token × (A × Token) → B) (c : GrammarFault) (F : Option Token → Bool) → Leads F any (One (sign m.CloseBracket)) → {p p' : Reader Token A} {R R' R⁺ : Phrase Token A} → Step c F p p' R R' R⁺ → Step c any (bracket make p) (bracket make p') (Bracket make R) (Bracket make R') (Bracket make R⁺)
 bracket_step make c F l {R = R} {R' = R'} x =
     step_made make (step_both (free any (Both R (One (sign m.CloseBracket)))) (free any (Both R' (One (sign m.CloseBracket)))) (one_step c (k.Sign m.OpenBracket) refl)
     (step_both l l x (one_step c (k.Sign m.CloseBracket) refl)))
@@ -106,11 +106,11 @@ module _ {A : Type 0} where
   twice : (R : Phrase Token A) → Opens R → Begins (sees (sign m.OpenBracket)) true any (Both R (Maybe R))
   twice R s = begins_by (λ t. sign m.OpenBracket t ≡ true) (Both R (Maybe R)) (sees (sign m.OpenBracket)) any true (starts_both (λ t. sign m.OpenBracket t ≡ true) R (Maybe R) s) (λ t q. q)
 
-  pub brackets_step : (c : Fault) {p p' : Reader Token A} {R R' R⁺ : Phrase Token A} → Opens R → Opens R' → Step c any p p' R R' R⁺ → Step c after_place (brackets p) (brackets p') (Brackets R) (Brackets R') (Brackets R⁺)
+  pub brackets_step : (c : GrammarFault) {p p' : Reader Token A} {R R' R⁺ : Phrase Token A} → Opens R → Opens R' → Step c any p p' R R' R⁺ → Step c after_place (brackets p) (brackets p') (Brackets R) (Brackets R') (Brackets R⁺)
   brackets_step c {R = R} {R' = R'} s s' x =
       step_made tree.listed (step_maybe (sees (sign m.OpenBracket)) (twice R s) (twice R' s')
       (step_both (free after_place (Maybe R)) (free after_place (Maybe R')) x
       (step_maybe (sees (sign m.OpenBracket)) (once R s) (once R' s') (step_closed (sees (sign m.OpenBracket)) x))))
 
-pub last_step : (c : Fault) (passes : Token → Bool) (t : Token) → passes t ≡ true → Step c after_place (last passes) (last passes) (One passes) (One passes) (One passes)
+pub last_step : (c : GrammarFault) (passes : Token → Bool) (t : Token) → passes t ≡ true → Step c after_place (last passes) (last passes) (One passes) (One passes) (One passes)
 last_step c passes t e = step_closed (sees (sign m.OpenBracket)) (step_one c passes t e)

@@ -16,8 +16,8 @@ use Rattle.kernel_parser.specs.Parsing.{last, leaf, expr_of, group, pair, triple
 use Rattle.kernel_parser.proofs.KindTests.{sample, one_step, In, starts_in, begins_in, some_one, some_both, opens_with}
 use Rattle.kernel_parser.proofs.Chains.{After, after_place, after_expr, place_passes, ranked_step, last_step}
 use Rattle.kernel_parser.proofs.IndexSteps.{place_starts, place_step}
-use Rattle.word_grammar.specs.declared.fault.Fault.{Fault}
-use Rattle.word_grammar.specs.declared.fault.Fault.TheVariants.{Syntax}
+use Rattle.word_grammar.specs.declared.fault.GrammarFault.{GrammarFault}
+use Rattle.word_grammar.specs.declared.fault.GrammarFault.TheVariants.{Syntax}
 use Rattle.word_grammar.specs.Phrases.{Phrase, One, Both, Either, Made}
 use Rattle.word_grammar.specs.Readers.{Reader, sees, one, both, either}
 use Rattle.word_grammar.proofs.Parts.{Begins, Leads, Some_word}
@@ -46,7 +46,7 @@ leaf_starts d =
     (λ t h. ⊎_elim (λ x. or_left (eqb (tag t.kind) 1) (eqb (tag t.kind) 0) x) (λ x. or_right (eqb (tag t.kind) 1) (eqb (tag t.kind) 0) x) h)
     (starts_either (In (λ n. eqb n 1)) (In (λ n. eqb n 0)) Numbered (Placed d) numbered_starts (placed_starts d))
 
-leaf_step : (c : Fault) (d d' : ℕ) → Levels c d d' → Step c after_place (leaf d) (leaf d') (Leaf d) (Leaf d') (Leaf (suc d))
+leaf_step : (c : GrammarFault) (d d' : ℕ) → Levels c d d' → Step c after_place (leaf d) (leaf d') (Leaf d) (Leaf d') (Leaf (suc d))
 leaf_step c d d' h =
     let b : Begins (sees is_number) true after_place Numbered = begins_in (λ n. eqb n 1) (λ n. eqb n 1) true after_place Numbered refl numbered_starts in
     step_either (sees is_number) b b
@@ -58,7 +58,7 @@ leaf_not_open d = begins_in (λ n. eqb n 1 || eqb n 0) (λ n. (eqb n 25 || eqb n
 
 -- ---- what stands behind an expression
 
-pub expr_of_step : (c : Fault) {p p' : Reader Token RawExpr} {R R' R⁺ : Phrase Token RawExpr} → Step c after_place p p' R R' R⁺ → Step c (After after_place 5) (expr_of p) (expr_of p') (ExprOf R) (ExprOf R') (ExprOf R⁺)
+pub expr_of_step : (c : GrammarFault) {p p' : Reader Token RawExpr} {R R' R⁺ : Phrase Token RawExpr} → Step c after_place p p' R R' R⁺ → Step c (After after_place 5) (expr_of p) (expr_of p') (ExprOf R) (ExprOf R') (ExprOf R⁺)
 expr_of_step c x = ranked_step tree.link tree.chain c after_place place_passes 5 (omega arith) x
 
 pub expr_close : (G : Option Token → Bool) → Leads (After after_place 5) G (One (sign m.CloseParen))
@@ -89,14 +89,14 @@ Parens S = Both (One (sign m.OpenParen)) S
 abbrev parens : {B : Type 0} → Reader Token B → Reader Token (Token × B)
 parens q = both (one (sign m.OpenParen)) q
 
-module _ (c : Fault) {p p' : Reader Token RawExpr} {R R' R⁺ : Phrase Token RawExpr} (x : Step c (After after_place 5) p p' R R' R⁺) where
+module _ (c : GrammarFault) {p p' : Reader Token RawExpr} {R R' R⁺ : Phrase Token RawExpr} (x : Step c (After after_place 5) p p' R R' R⁺) where
   closed_step : Step c after_place (closed p) (closed p') (Closed R) (Closed R') (Closed R⁺)
   closed_step = step_both (expr_close after_place) (expr_close after_place) x (last_step c (sign m.CloseParen) (sample (k.Sign m.CloseParen)) refl)
 
   listed_step : {B : Type 0} {q q' : Reader Token B} {S S' S⁺ : Phrase Token B} → Step c after_place q q' S S' S⁺ → Step c after_place (listed p q) (listed p' q') (Listed R S) (Listed R' S') (Listed R⁺ S⁺)
   listed_step {S = S} {S' = S'} y = step_both (expr_comma after_place S) (expr_comma after_place S') x (step_both (free after_place S) (free after_place S') (one_step c (k.Sign m.Comma) refl) y)
 
-parens_step : (c : Fault) {B : Type 0} {q q' : Reader Token B} {S S' S⁺ : Phrase Token B} → Step c after_place q q' S S' S⁺ → Step c after_place (parens q) (parens q') (Parens S) (Parens S') (Parens S⁺)
+parens_step : (c : GrammarFault) {B : Type 0} {q q' : Reader Token B} {S S' S⁺ : Phrase Token B} → Step c after_place q q' S S' S⁺ → Step c after_place (parens q) (parens q') (Parens S) (Parens S') (Parens S⁺)
 parens_step c {S = S} {S' = S'} y = step_both (free after_place S) (free after_place S') (one_step c (k.Sign m.OpenParen) refl) y
 
 abbrev PairRest : Phrase Token RawExpr → Phrase Token (Token × (RawExpr × (Token × (RawExpr × Token))))
@@ -144,7 +144,7 @@ opened_starts R =
 opened_begins : (R : Phrase Token RawExpr) → Begins (sees opens) true after_place (Opened R)
 opened_begins R = begins_in OpenedClass (λ n. (eqb n 25 || eqb n 18) || ((eqb n 7 || eqb n 8) || (eqb n 9 || eqb n 10))) true after_place (Opened R) refl (opened_starts R)
 
-module _ (c : Fault) {p p' : Reader Token RawExpr} {R R' R⁺ : Phrase Token RawExpr} (x : Step c (After after_place 5) p p' R R' R⁺) where
+module _ (c : GrammarFault) {p p' : Reader Token RawExpr} {R R' R⁺ : Phrase Token RawExpr} (x : Step c (After after_place 5) p p' R R' R⁺) where
   group_step : Step c after_place (group p) (group p') (Group R) (Group R') (Group R⁺)
   group_step = step_made tree.inside (parens_step c (closed_step c x))
 
@@ -166,7 +166,7 @@ module _ (c : Fault) {p p' : Reader Token RawExpr} {R R' R⁺ : Phrase Token Raw
       (begins_in (λ n. (eqb n 7 || eqb n 8) || (eqb n 9 || eqb n 10)) (λ n. eqb n 18) false after_place (Either (Pair R) (Triple R)) refl (calls_starts R)) (begins_in (λ n. (eqb n 7 || eqb n 8) || (eqb n 9 || eqb n 10)) (λ n. eqb n 18) false after_place (Either (Pair R') (Triple R')) refl (calls_starts R'))
       group_step calls_step
 
-opened_step : (c : Fault) {p p' : Reader Token RawExpr} {R R' R⁺ : Phrase Token RawExpr} → Step c after_place p p' R R' R⁺ → Step c after_place (opened p) (opened p') (Opened R) (Opened R') (Opened R⁺)
+opened_step : (c : GrammarFault) {p p' : Reader Token RawExpr} {R R' R⁺ : Phrase Token RawExpr} → Step c after_place p p' R R' R⁺ → Step c after_place (opened p) (opened p') (Opened R) (Opened R') (Opened R⁺)
 opened_step c {R = R} {R' = R'} x =
     step_either (sees (sign m.Minus)) (first_begins_at (sign m.Minus) tree.minus R) (first_begins_at (sign m.Minus) tree.minus R')
     (begins_in AtomClass (λ n. eqb n 25) false after_place (Either (Group (ExprOf R)) (Either (Pair (ExprOf R)) (Triple (ExprOf R)))) refl (atoms_starts (ExprOf R))) (begins_in AtomClass (λ n. eqb n 25) false after_place (Either (Group (ExprOf R')) (Either (Pair (ExprOf R')) (Triple (ExprOf R')))) refl (atoms_starts (ExprOf R')))
@@ -204,7 +204,7 @@ opens_part t e =
     (or_cases (is_pair t) (is_triple t) h))
     (or_cases (opens_index t) (is_pair t || is_triple t) e)
 
-pub unary_step : (c : Fault) (d d' : ℕ) → Levels c d d' → Step c after_place (unary d) (unary d') (Unary d) (Unary d') (Unary (suc d))
+pub unary_step : (c : GrammarFault) (d d' : ℕ) → Levels c d d' → Step c after_place (unary d) (unary d') (Unary d) (Unary d') (Unary (suc d))
 unary_step c zero zero h = step_shut (sees opens) (Opened (Leaf 0)) refl (λ w t i. opens_part t i) (leaf_not_open 0) (leaf_not_open 0) (leaf_step c 0 0 h)
 unary_step c zero (suc e) h =
     step_shut_open (sees opens) (Opened (Leaf 0)) refl (λ w t i. opens_part t i) (opened (unary e)) (Opened (Unary e)) (no_more_deep c e h)
@@ -214,5 +214,5 @@ unary_step c (suc d) (suc e) h =
     step_either (sees opens) (opened_begins (Unary d)) (opened_begins (Unary e)) (leaf_not_open (suc d)) (leaf_not_open (suc e))
     (opened_step c (unary_step c d e (levels_down c d e h))) (leaf_step c (suc d) (suc e) h)
 
-pub expr_step : (c : Fault) (d d' : ℕ) → Levels c d d' → Step c (After after_place 5) (expr d) (expr d') (Expr d) (Expr d') (Expr (suc d))
+pub expr_step : (c : GrammarFault) (d d' : ℕ) → Levels c d d' → Step c (After after_place 5) (expr d) (expr d') (Expr d) (Expr d') (Expr (suc d))
 expr_step c d d' h = expr_of_step c (unary_step c d d' h)

@@ -3,8 +3,8 @@ use Rattle.std.proofs.Common.{◌≡◌, ◌++◌, ◌∷◌, [], ℕ, List, Boo
 use Rattle.std.specs.Option.{is_some}
 use Rattle.kernel_parser.specs.declared.parse_end.ParseEnd.{ParseEnd}
 use Rattle.kernel_parser.specs.declared.parse_end.ParseEnd.TheVariants.{Fault, NoMemory}
-use Rattle.kernel_parser.specs.declared.names.fault.Fault.TheVariants as faults
-use Rattle.kernel_parser.specs.declared.names.fault.Fault as names_fault
+use Rattle.kernel_parser.specs.declared.names.fault.NameRule.TheVariants as faults
+use Rattle.kernel_parser.specs.declared.names.fault.NameRule as names_fault
 use Rattle.kernel_parser.specs.NameFaults.{NameFault, fault, unless}
 use Rattle.kernel_parser.specs.Names.{meaning_by, twice_faults}
 use Rattle.kernel_parser.specs.Scopes.{EndsAt}
@@ -35,6 +35,6 @@ none_of None e h = refl
 none_of (Some a) e h = absurd (cc)
 
 -- the test did not fail
-pub passed : (test : Bool) (f : names_fault.Fault) (at : ℕ) → unless test f at ≡ [] → test ≡ true
+pub passed : (test : Bool) (f : names_fault.NameRule) (at : ℕ) → unless test f at ≡ [] → test ≡ true
 passed true f at h = refl
 passed false f at h = absurd (cc)

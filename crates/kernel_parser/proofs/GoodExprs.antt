@@ -21,7 +21,7 @@ use Rattle.kernel_parser.specs.declared.raw.RawExpr.TheOpen as open_raw
 use Rattle.kernel_parser.specs.declared.raw.RawExpr.TheFolds.{fold-RawLink, fold-roll-RawExpr, fold-roll-RawLink, ind-RawExpr, map-RawExpr, map-RawLink}
 use Rattle.kernel_parser.specs.declared.raw.RawLink.{RawLink, roll-RawLink}
 use Rattle.kernel_parser.specs.Names as names
-use Rattle.kernel_parser.specs.declared.names.fault.Fault.TheVariants as faults
+use Rattle.kernel_parser.specs.declared.names.fault.NameRule.TheVariants as faults
 use Rattle.kernel_ast.specs.Walk.{joined}
 use Rattle.kernel_parser.specs.NameFaults.{NameFault, unless}
 use Rattle.kernel_parser.specs.Names.{Known}

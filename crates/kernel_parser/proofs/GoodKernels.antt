@@ -1,5 +1,5 @@
 -- A tree that fits and has no fault gives a well formed kernel.
-use Rattle.std.proofs.Common.{◌≡◌, ◌+◌, ◌≤◌, ◌&&◌, ◌++◌, ◌∷◌, [], ℕ, ℤ, pos, negsuc, suc, Bool, true, List, map, length, nat_lt, nat_le, refl, sym, ap, ◌∙◌, subst}
+use Rattle.std.proofs.Common.{◌≡◌, ◌+◌, ◌≤◌, ◌&&◌, ◌++◌, ◌∷◌, [], ℕ, ℤ, pos, negsuc, suc, Bool, true, List, map, length, Option, Some, None, nat_lt, nat_le, refl, sym, ap, ◌∙◌, subst}
 use Rattle.std.specs.Prelude.{unsigned_abs}
 use Rattle.std.specs.List.{All, list_all}
 use Rattle.std.proofs.lemmas.List.{length-map}
@@ -17,12 +17,14 @@ use Rattle.kernel_parser.specs.declared.raw.RawDecl.{RawDecl}
 use Rattle.kernel_parser.specs.declared.raw.RawPlace.{RawPlace}
 use Rattle.kernel_parser.specs.declared.raw.RawExpr.{RawExpr}
 use Rattle.kernel_parser.specs.declared.raw.RawLoop.{RawLoop}
+use Rattle.kernel_parser.specs.declared.raw.RawIndex.{RawIndex}
+use Rattle.kernel_parser.specs.declared.raw.RawBranch.{RawBranch}
 use Rattle.kernel_parser.specs.declared.raw.RawStmt.{RawStmt, roll-RawStmt}
-use Rattle.kernel_parser.specs.declared.raw.RawStmt.TheOpen.{RawStmt-F, Assign, Loop}
+use Rattle.kernel_parser.specs.declared.raw.RawStmt.TheOpen.{RawStmt-F, Assign, Loop, Branch}
 use Rattle.kernel_parser.specs.declared.raw.RawStmt.TheFolds.{fold-roll-RawStmt, ind-RawStmt, map-RawStmt}
 use Rattle.kernel_parser.specs.declared.raw.RawKernel.{RawKernel}
 use Rattle.kernel_parser.specs.Names as names
-use Rattle.kernel_parser.specs.declared.names.fault.Fault.TheVariants as faults
+use Rattle.kernel_parser.specs.declared.names.fault.NameRule.TheVariants as faults
 use Rattle.kernel_parser.specs.NameFaults.{NameFault, unless}
 use Rattle.kernel_parser.specs.Names.{known_in, word}
 use Rattle.kernel_parser.specs.Resolved as tree
@@ -81,6 +83,12 @@ module _ (text : List ℕ) (decls : List Declared) where
       (r.1 loops (and_left _ _ p) (first_none (names.stmt_faults text decls r.0 loops) _ q))
       ∙ all_hold more loops (and_right (fits.stmt_fits r.0 (length loops)) _ p) (second_none (names.stmt_faults text decls r.0 loops) _ q)
 
+  -- a step that fits is well formed, and of the same weight
+  step_holds : (loops : List (List ℕ)) (by : Option RawIndex) → fits.step_fits by ≡ true → names.step_faults (known_in text decls loops) by ≡ []
+      → (good.step_fits (length loops) (tree.step_of (known_in text decls loops) by) ≡ true) × (weights.step_weight (tree.step_of (known_in text decls loops) by) ≡ raw_weights.step_weight by)
+  step_holds loops None p q = (refl, refl)
+  step_holds loops (Some by) p q = index_tree_holds (known_in text decls loops) by.tree p q
+
   loop_holds : (h : RawLoop) (body : List ((r : RawStmt) × Holds r)) (loops : List (List ℕ))
       → fits.stmt_fits_step (Loop h (map fits.stmt_fits (map (λ e. e.0) body))) (length loops) ≡ true
       → names.header_faults (known_in text decls loops) h ++ names.all_in (map (names.stmt_faults text decls) (map (λ e. e.0) body)) (loops ++ word text h.name ∷ []) ≡ []
@@ -96,26 +104,68 @@ module _ (text : List ℕ) (decls : List Declared) where
       let both = and_left (fits.header_fits h) _ after in
       let header = first_none (names.header_faults known h) _ q in
       let bounds = second_none (names.twice_faults (names.meaning known h.name) h.name.from) _ header in
-      let x = index_tree_holds known h.from.tree (and_left (fits.index_fits h.from) (fits.index_fits h.to) both) (first_none (names.index_faults known h.from) (names.index_faults known h.to) bounds) in
-      let y = index_tree_holds known h.to.tree (and_right (fits.index_fits h.from) (fits.index_fits h.to) both) (second_none (names.index_faults known h.from) (names.index_faults known h.to) bounds) in
-      let weight : weights.loop_weight from to ≡ raw_weights.loop_weight h = ap (λ w. 1 + (w + weights.index_weight to)) x.1 ∙ ap (λ w. 1 + (raw_weights.index_weight h.from + w)) y.1 in
+      let end = second_none (names.index_faults known h.from) (names.index_faults known h.to ++ names.step_faults known h.by) bounds in
+      let later = and_right (fits.index_fits h.from) (fits.index_fits h.to && fits.step_fits h.by) both in
+      let by = tree.step_of known h.by in
+      let x = index_tree_holds known h.from.tree (and_left (fits.index_fits h.from) (fits.index_fits h.to && fits.step_fits h.by) both) (first_none (names.index_faults known h.from) (names.index_faults known h.to ++ names.step_faults known h.by) bounds) in
+      let y = index_tree_holds known h.to.tree (and_left (fits.index_fits h.to) (fits.step_fits h.by) later) (first_none (names.index_faults known h.to) (names.step_faults known h.by) end) in
+      let z = step_holds loops h.by (and_right (fits.index_fits h.to) (fits.step_fits h.by) later) (second_none (names.index_faults known h.to) (names.step_faults known h.by) end) in
+      let weight : weights.loop_weight from to by ≡ raw_weights.loop_weight h =
+      ap (λ w. 1 + (w + (weights.index_weight to + weights.step_weight by))) x.1 ∙ ap (λ w. 1 + (raw_weights.index_weight h.from + (w + weights.step_weight by))) y.1
+      ∙ ap (λ w. 1 + (raw_weights.index_weight h.from + (raw_weights.index_weight h.to + w))) z.1 in
       let light = ap (λ w. nat_le w 65536) weight ∙ and_left (nat_le (raw_weights.loop_weight h) 65536) _ last in
       let deeper = length_more loops (word text h.name) in
       let rest : good.all_at (suc (length loops)) (map (good.stmt_fits decls) b) ≡ true
       = subst (λ k. good.all_at k (map (good.stmt_fits decls) b) ≡ true) deeper
       (all_hold body inner (ap (λ k. good.all_at k (map fits.stmt_fits (map (λ e. e.0) body))) deeper ∙ and_right (nat_le (raw_weights.loop_weight h) 65536) _ last) (second_none (names.header_faults known h) _ q)) in
-      ap (λ s. good.stmt_fits decls s (length loops)) (sym (stmt.rolls-Loop from to b h.at))
-      ∙ stmt_fits_rolled (open_stmt.Loop from to b h.at) (length loops)
-      ∙ ap (λ z. z && (good.index_fits (length loops) from && (good.index_fits (length loops) to && (nat_le (weights.loop_weight from to) 65536 && good.all_at (suc (length loops)) (map (good.stmt_fits decls) b)))))
-      (and_left (nat_lt (length loops) 32) _ p)
-      ∙ ap (λ z. z && (good.index_fits (length loops) to && (nat_le (weights.loop_weight from to) 65536 && good.all_at (suc (length loops)) (map (good.stmt_fits decls) b)))) x.0
-      ∙ ap (λ z. z && (nat_le (weights.loop_weight from to) 65536 && good.all_at (suc (length loops)) (map (good.stmt_fits decls) b))) y.0
+      let fit : Bool = nat_le (weights.loop_weight from to by) 65536 && good.all_at (suc (length loops)) (map (good.stmt_fits decls) b) in
+      ap (λ s. good.stmt_fits decls s (length loops)) (sym (stmt.rolls-Loop from to by b h.at))
+      ∙ stmt_fits_rolled (open_stmt.Loop from to by b h.at) (length loops)
+      ∙ ap (λ z. z && (good.index_fits (length loops) from && (good.index_fits (length loops) to && (good.step_fits (length loops) by && fit)))) (and_left (nat_lt (length loops) 32) _ p)
+      ∙ ap (λ z. z && (good.index_fits (length loops) to && (good.step_fits (length loops) by && fit))) x.0
+      ∙ ap (λ z. z && (good.step_fits (length loops) by && fit)) y.0
+      ∙ ap (λ z. z && fit) z.0
       ∙ ap (λ z. z && good.all_at (suc (length loops)) (map (good.stmt_fits decls) b)) light
       ∙ rest
+
+  branch_holds : (c : RawBranch) (taken other : List ((r : RawStmt) × Holds r)) (loops : List (List ℕ))
+      → fits.stmt_fits_step (Branch c (map fits.stmt_fits (map (λ e. e.0) taken)) (map fits.stmt_fits (map (λ e. e.0) other))) (length loops) ≡ true
+      → names.condition_faults (known_in text decls loops) c ++ (names.all_in (map (names.stmt_faults text decls) (map (λ e. e.0) taken)) loops ++ names.all_in (map (names.stmt_faults text decls) (map (λ e. e.0) other)) loops) ≡ []
+      → good.stmt_fits decls (tree.stmt_step text decls (Branch c (map (tree.stmt_of text decls) (map (λ e. e.0) taken)) (map (tree.stmt_of text decls) (map (λ e. e.0) other))) loops) (length loops) ≡ true
+  branch_holds c taken other loops p q =
+      let known = known_in text decls loops in
+      let left = tree.index_of known c.left in
+      let right = tree.index_of known c.right in
+      let first = tree.all_in (map (tree.stmt_of text decls) (map (λ e. e.0) taken)) loops in
+      let second = tree.all_in (map (tree.stmt_of text decls) (map (λ e. e.0) other)) loops in
+      let first_fits = good.all_at (length loops) (map fits.stmt_fits (map (λ e. e.0) taken)) in
+      let second_fits = good.all_at (length loops) (map fits.stmt_fits (map (λ e. e.0) other)) in
+      let sides = and_left (fits.condition_fits c) _ p in
+      let after = and_right (fits.condition_fits c) (nat_le (raw_weights.branch_weight c) 65536 && (first_fits && second_fits)) p in
+      let bodies = and_right (nat_le (raw_weights.branch_weight c) 65536) (first_fits && second_fits) after in
+      let first_faults = names.all_in (map (names.stmt_faults text decls) (map (λ e. e.0) taken)) loops in
+      let second_faults = names.all_in (map (names.stmt_faults text decls) (map (λ e. e.0) other)) loops in
+      let condition = first_none (names.condition_faults known c) (first_faults ++ second_faults) q in
+      let inside = second_none (names.condition_faults known c) (first_faults ++ second_faults) q in
+      let x = index_tree_holds known c.left.tree (and_left (fits.index_fits c.left) (fits.index_fits c.right) sides) (first_none (names.index_faults known c.left) (names.index_faults known c.right) condition) in
+      let y = index_tree_holds known c.right.tree (and_right (fits.index_fits c.left) (fits.index_fits c.right) sides) (second_none (names.index_faults known c.left) (names.index_faults known c.right) condition) in
+      let weight : weights.branch_weight left right ≡ raw_weights.branch_weight c = ap (λ w. 1 + (w + weights.index_weight right)) x.1 ∙ ap (λ w. 1 + (raw_weights.index_weight c.left + w)) y.1 in
+      let light = ap (λ w. nat_le w 65536) weight ∙ and_left (nat_le (raw_weights.branch_weight c) 65536) (first_fits && second_fits) after in
+      let one = all_hold taken loops (and_left first_fits second_fits bodies) (first_none first_faults second_faults inside) in
+      let two = all_hold other loops (and_right first_fits second_fits bodies) (second_none first_faults second_faults inside) in
+      let fit : Bool = good.all_at (length loops) (map (good.stmt_fits decls) first) && good.all_at (length loops) (map (good.stmt_fits decls) second) in
+      ap (λ s. good.stmt_fits decls s (length loops)) (sym (stmt.rolls-Branch left c.rel right first second c.at))
+      ∙ stmt_fits_rolled (open_stmt.Branch left c.rel right first second c.at) (length loops)
+      ∙ ap (λ z. z && (good.index_fits (length loops) right && (nat_le (weights.branch_weight left right) 65536 && fit))) x.0
+      ∙ ap (λ z. z && (nat_le (weights.branch_weight left right) 65536 && fit)) y.0
+      ∙ ap (λ z. z && fit) light
+      ∙ ap (λ z. z && good.all_at (length loops) (map (good.stmt_fits decls) second)) one
+      ∙ two
 
   layer_parts : (y : RawStmt-F ((r : RawStmt) × Holds r)) → Holds (roll-RawStmt (map-RawStmt ((r : RawStmt) × Holds r) RawStmt (λ e. e.0) y))
   layer_parts (Assign target value) = opened (Assign target value) (assign_holds target value)
   layer_parts (Loop header body) = opened (Loop header (map (λ e. e.0) body)) (loop_holds header body)
+  layer_parts (Branch condition taken other) = opened (Branch condition (map (λ e. e.0) taken) (map (λ e. e.0) other)) (branch_holds condition taken other)
 
   layer : (x : RawStmt-F RawStmt) (y : RawStmt-F ((r : RawStmt) × Holds r)) → map-RawStmt ((r : RawStmt) × Holds r) RawStmt (λ e. e.0) y ≡ x → Holds (roll-RawStmt x)
   layer x y is = subst (λ z. Holds (roll-RawStmt z)) is (layer_parts y)

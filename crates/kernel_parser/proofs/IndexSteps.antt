@@ -12,8 +12,8 @@ use Rattle.kernel_parser.specs.Grammar.{Bracket, Brackets, IndexLeaf, IndexOf, I
 use Rattle.kernel_parser.specs.Parsing.{bracket, index_leaf, index_of, index_opened, index_unary, index, place}
 use Rattle.kernel_parser.proofs.KindTests.{sample, one_step, In, starts_in, begins_in, some_one, some_both, opens_with}
 use Rattle.kernel_parser.proofs.Chains.{After, after_place, after_index, any_passes, ranked_step, bracket_starts, bracket_step, brackets_step}
-use Rattle.word_grammar.specs.declared.fault.Fault.{Fault}
-use Rattle.word_grammar.specs.declared.fault.Fault.TheVariants.{Syntax}
+use Rattle.word_grammar.specs.declared.fault.GrammarFault.{GrammarFault}
+use Rattle.word_grammar.specs.declared.fault.GrammarFault.TheVariants.{Syntax}
 use Rattle.word_grammar.specs.Phrases.{Phrase, One, Both, Made}
 use Rattle.word_grammar.specs.Readers.{Reader, sees}
 use Rattle.word_grammar.proofs.Parts.{Begins, Leads}
@@ -39,7 +39,7 @@ leaf_starts =
     (λ t h. ⊎_elim (λ x. or_left (eqb (tag t.kind) 1) (eqb (tag t.kind) 0) x) (λ x. or_right (eqb (tag t.kind) 1) (eqb (tag t.kind) 0) x) h)
     (starts_either (In (λ n. eqb n 1)) (In (λ n. eqb n 0)) Numbered Named numbered_starts named_starts)
 
-leaf_step : (c : Fault) → Step c any index_leaf index_leaf IndexLeaf IndexLeaf IndexLeaf
+leaf_step : (c : GrammarFault) → Step c any index_leaf index_leaf IndexLeaf IndexLeaf IndexLeaf
 leaf_step c =
     let b : Begins (sees is_number) true any Numbered = begins_in (λ n. eqb n 1) (λ n. eqb n 1) true any Numbered refl numbered_starts in
     let d : Begins (sees is_number) false any Named = begins_in (λ n. eqb n 0) (λ n. eqb n 1) false any Named refl named_starts in
@@ -50,7 +50,7 @@ leaf_not_open = begins_in (λ n. eqb n 1 || eqb n 0) (λ n. eqb n 25 || eqb n 18
 
 -- ---- parts that a token opens
 
-pub index_of_step : (c : Fault) {p p' : Reader Token RawIndex} {R R' R⁺ : Phrase Token RawIndex} → Step c any p p' R R' R⁺ → Step c (After any 2) (index_of p) (index_of p') (IndexOf R) (IndexOf R') (IndexOf R⁺)
+pub index_of_step : (c : GrammarFault) {p p' : Reader Token RawIndex} {R R' R⁺ : Phrase Token RawIndex} → Step c any p p' R R' R⁺ → Step c (After any 2) (index_of p) (index_of p') (IndexOf R) (IndexOf R') (IndexOf R⁺)
 index_of_step c x = ranked_step tree.index_link tree.index_chain c any any_passes 2 (omega arith) x
 
 group_end : Leads (After any 2) any (One (sign m.CloseParen))
@@ -69,7 +69,7 @@ opened_begins R =
     (λ t h. ⊎_elim (λ x. or_left (eqb (tag t.kind) 25) (eqb (tag t.kind) 18) x) (λ x. or_right (eqb (tag t.kind) 25) (eqb (tag t.kind) 18) x) h)
     (starts_either (In (λ n. eqb n 25)) (In (λ n. eqb n 18)) (IndexNegated R) (IndexGroup (IndexOf R)) (negated_starts R) (group_starts (IndexOf R))))
 
-opened_step : (c : Fault) {p p' : Reader Token RawIndex} {R R' R⁺ : Phrase Token RawIndex} → Step c any p p' R R' R⁺ → Step c any (index_opened p) (index_opened p') (IndexOpened R) (IndexOpened R') (IndexOpened R⁺)
+opened_step : (c : GrammarFault) {p p' : Reader Token RawIndex} {R R' R⁺ : Phrase Token RawIndex} → Step c any p p' R R' R⁺ → Step c any (index_opened p) (index_opened p') (IndexOpened R) (IndexOpened R') (IndexOpened R⁺)
 opened_step c {R = R} {R' = R'} x =
     let close = one_step c (k.Sign m.CloseParen) refl in
     let group = step_made tree.index_group (step_both (free any (Both (IndexOf R) (One (sign m.CloseParen)))) (free any (Both (IndexOf R') (One (sign m.CloseParen)))) (one_step c (k.Sign m.OpenParen) refl) (step_both group_end group_end (index_of_step c x) close)) in
@@ -87,7 +87,7 @@ opens_part t e =
     (some_both (IndexOf IndexLeaf) (One (sign m.CloseParen)) (index_of_step Syntax (leaf_step Syntax)).low.some (some_one (sign m.CloseParen) (sample (k.Sign m.CloseParen)) refl)) t h in (x.0, x.1, inr x.2))
     (or_cases (sign m.Minus t) (sign m.OpenParen t) e)
 
-pub index_unary_step : (c : Fault) (d d' : ℕ) → Levels c d d' → Step c any (index_unary d) (index_unary d') (IndexUnary d) (IndexUnary d') (IndexUnary (suc d))
+pub index_unary_step : (c : GrammarFault) (d d' : ℕ) → Levels c d d' → Step c any (index_unary d) (index_unary d') (IndexUnary d) (IndexUnary d') (IndexUnary (suc d))
 index_unary_step c zero zero h = step_shut (sees opens_index) (IndexOpened IndexLeaf) refl (λ w t i. opens_part t i) leaf_not_open leaf_not_open (leaf_step c)
 index_unary_step c zero (suc e) h =
     step_shut_open (sees opens_index) (IndexOpened IndexLeaf) refl (λ w t i. opens_part t i) (index_opened (index_unary e)) (IndexOpened (IndexUnary e)) (no_more_deep c e h)
@@ -97,7 +97,7 @@ index_unary_step c (suc d) (suc e) h =
     step_either (sees opens_index) (opened_begins (IndexUnary d)) (opened_begins (IndexUnary e)) leaf_not_open leaf_not_open
     (opened_step c (index_unary_step c d e (levels_down c d e h))) (leaf_step c)
 
-pub index_step : (c : Fault) (d d' : ℕ) → Levels c d d' → Step c (After any 2) (index d) (index d') (Index d) (Index d') (Index (suc d))
+pub index_step : (c : GrammarFault) (d d' : ℕ) → Levels c d d' → Step c (After any 2) (index d) (index d') (Index d) (Index d') (Index (suc d))
 index_step c d d' h = index_of_step c (index_unary_step c d d' h)
 
 -- ---- places
@@ -105,13 +105,13 @@ index_step c d d' h = index_of_step c (index_unary_step c d d' h)
 bracket_end : Leads (After any 2) any (One (sign m.CloseBracket))
 bracket_end = leads_by (λ t. sign m.CloseBracket t ≡ true) (One (sign m.CloseBracket)) (After any 2) any (starts_one (sign m.CloseBracket)) (λ t q. after_index (λ n. eqb n 17) refl 2 t q)
 
-pub index_bracket_step : (c : Fault) (d d' : ℕ) → Levels c d d' → Step c any (bracket tree.inside (index d)) (bracket tree.inside (index d')) (Bracket tree.inside (Index d)) (Bracket tree.inside (Index d')) (Bracket tree.inside (Index (suc d)))
+pub index_bracket_step : (c : GrammarFault) (d d' : ℕ) → Levels c d d' → Step c any (bracket tree.inside (index d)) (bracket tree.inside (index d')) (Bracket tree.inside (Index d)) (Bracket tree.inside (Index d')) (Bracket tree.inside (Index (suc d)))
 index_bracket_step c d d' h = bracket_step tree.inside c (After any 2) bracket_end (index_step c d d' h)
 
 pub place_starts : (d : ℕ) → Starts (In (λ n. eqb n 0)) (Place d)
 place_starts d = starts_made (In (λ n. eqb n 0)) tree.place (Both (One is_name) (Brackets (Bracket tree.inside (Index d)))) (starts_both (λ t. is_name t ≡ true) (One is_name) (Brackets (Bracket tree.inside (Index d))) (starts_one is_name))
 
-pub place_step : (c : Fault) (d d' : ℕ) → Levels c d d' → Step c after_place (place d) (place d') (Place d) (Place d') (Place (suc d))
+pub place_step : (c : GrammarFault) (d d' : ℕ) → Levels c d d' → Step c after_place (place d) (place d') (Place d) (Place d') (Place (suc d))
 place_step c d d' h =
     let B = Brackets (Bracket tree.inside (Index d)) in
     let B' = Brackets (Bracket tree.inside (Index d')) in

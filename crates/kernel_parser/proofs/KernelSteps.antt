@@ -15,7 +15,7 @@ use Rattle.kernel_parser.specs.Parsing.{size, declared, whole}
 use Rattle.kernel_parser.proofs.KindTests.{sample, one_step, In, by_kind}
 use Rattle.kernel_parser.proofs.Chains.{after_place, bracket_starts, bracket_step, brackets_step}
 use Rattle.kernel_parser.proofs.StatementSteps.{Rest, rest_step, StatementClass, statement_starts, statement_begins, statement_step}
-use Rattle.word_grammar.specs.declared.fault.Fault.{Fault}
+use Rattle.word_grammar.specs.declared.fault.GrammarFault.{GrammarFault}
 use Rattle.word_grammar.specs.Phrases.{Phrase, One, Both, Many}
 use Rattle.word_grammar.specs.Readers.{sees}
 use Rattle.word_grammar.proofs.Parts.{Begins, Leads, Ends, and_whole}
@@ -23,7 +23,7 @@ use Rattle.word_grammar.proofs.Steps.{any, Step, step_one, step_both, step_made,
 
 -- ---- declarations
 
-size_step : (c : Fault) → Step c any size size Size Size Size
+size_step : (c : GrammarFault) → Step c any size size Size Size Size
 size_step c = bracket_step tree.size c any (free any (One (sign m.CloseBracket))) (one_step c (k.Number (pos 0)) refl)
 
 size_starts : Starts (λ t. sign m.OpenBracket t ≡ true) Size
@@ -37,7 +37,7 @@ sizes_end =
 abbrev Sizes : Phrase Token (List RawSize × Token)
 Sizes = Both (Brackets Size) (One (sign m.Semicolon))
 
-pub declared_step : (c : Fault) → Step c any declared declared Declared Declared Declared
+pub declared_step : (c : GrammarFault) → Step c any declared declared Declared Declared Declared
 declared_step c =
     let sizes = step_both sizes_end sizes_end (brackets_step c size_starts size_starts (size_step c)) (one_step c (k.Sign m.Semicolon) refl) in
     let named = step_both (free any Sizes) (free any Sizes) (one_step c k.Name refl) sizes in
@@ -63,7 +63,7 @@ Parts d = Both (Many Declared) (Rest (Statement d))
 abbrev Braced : ℕ → Phrase Token (Token × (List RawDecl × (List RawStmt × Token)))
 Braced d = Both (One (sign m.OpenBrace)) (Parts d)
 
-pub whole_step : (c : Fault) (d d' : ℕ) → Levels c d d' → Step c any (whole d) (whole d') (Whole d) (Whole d') (Whole (suc d))
+pub whole_step : (c : GrammarFault) (d d' : ℕ) → Levels c d d' → Step c any (whole d) (whole d') (Whole d) (Whole d') (Whole (suc d))
 whole_step c d d' h =
     let body = rest_step c (statement_begins d) (statement_begins d') (statement_step c d d' h) in
     let parts = step_both (decls_end d) (decls_end d') (step_many (sees is_role) refl declared_begins declared_begins (declared_step c)) body in

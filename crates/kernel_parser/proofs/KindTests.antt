@@ -10,7 +10,7 @@ use Rattle.kernel_lexer.specs.declared.token.TokenKind.{TokenKind}
 use Rattle.kernel_lexer.specs.declared.token.TokenKind.TheVariants as k
 use Rattle.kernel_lexer.specs.declared.token.Token.{Token}
 use Rattle.kernel_parser.specs.Tokens.{tag, keyword_tag, mark_tag, is, rank_of}
-use Rattle.word_grammar.specs.declared.fault.Fault.{Fault}
+use Rattle.word_grammar.specs.declared.fault.GrammarFault.{GrammarFault}
 use Rattle.word_grammar.specs.Phrases.{Phrase, One, Both, Made}
 use Rattle.word_grammar.specs.Readers.{sees, one}
 use Rattle.word_grammar.proofs.Parts.{Begins, Some_word}
@@ -20,10 +20,14 @@ use Rattle.word_grammar.proofs.Steps.{any, Step, step_one, Starts, begins_by}
 abbrev pub sample : TokenKind → Token
 sample kind = record { kind = kind; from = 0; to = 0 }
 
-pub one_step : (c : Fault) (kind : TokenKind) → is kind (sample kind) ≡ true → Step c any (one (is kind)) (one (is kind)) (One (is kind)) (One (is kind)) (One (is kind))
+pub one_step : (c : GrammarFault) (kind : TokenKind) → is kind (sample kind) ≡ true → Step c any (one (is kind)) (one (is kind)) (One (is kind)) (One (is kind)) (One (is kind))
 one_step c kind e = step_one c (is kind) (sample kind) e
 
 -- ---- all kinds at once
+
+-- how many kinds there are
+abbrev pub kinds : ℕ
+kinds = 36
 
 abbrev agrees : Bool → Bool → Bool
 agrees true b = b
@@ -59,7 +63,7 @@ implied_at class test b (suc n) e i h c =
     same_or_below : (i n : ℕ) → i < suc n → (i ≡ n) ⊎ (i < n)
     same_or_below i n h = grind arith
 
-keyword_below : (word : Keyword) → keyword_tag word < 30
+keyword_below : (word : Keyword) → keyword_tag word < kinds
 keyword_below w.Kernel = omega arith
 keyword_below w.Input = omega arith
 keyword_below w.Output = omega arith
@@ -73,7 +77,7 @@ keyword_below w.If = omega arith
 keyword_below w.Else = omega arith
 keyword_below w.By = omega arith
 
-mark_below : (mark : Mark) → mark_tag mark < 30
+mark_below : (mark : Mark) → mark_tag mark < kinds
 mark_below m.OpenBrace = omega arith
 mark_below m.CloseBrace = omega arith
 mark_below m.OpenBracket = omega arith
@@ -90,8 +94,14 @@ mark_below m.Star = omega arith
 mark_below m.And = omega arith
 mark_below m.Or = omega arith
 mark_below m.Xor = omega arith
+mark_below m.Same = omega arith
+mark_below m.Differs = omega arith
+mark_below m.Less = omega arith
+mark_below m.AtMost = omega arith
+mark_below m.More = omega arith
+mark_below m.AtLeast = omega arith
 
-tag_below : (kind : TokenKind) → tag kind < 30
+tag_below : (kind : TokenKind) → tag kind < kinds
 tag_below k.Name = omega arith
 tag_below (k.Number n) = omega arith
 tag_below (k.Word word) = keyword_below word
@@ -102,8 +112,8 @@ abbrev pub In : (ℕ → Bool) → Token → Type 0
 In class t = class (tag t.kind) ≡ true
 
 -- what a token of a class is at a test
-pub by_kind : (class test : ℕ → Bool) (b : Bool) → implied class test b 30 ≡ true → (t : Token) → In class t → test (tag t.kind) ≡ b
-by_kind class test b e t c = implied_at class test b 30 e (tag t.kind) (tag_below t.kind) c
+pub by_kind : (class test : ℕ → Bool) (b : Bool) → implied class test b kinds ≡ true → (t : Token) → In class t → test (tag t.kind) ≡ b
+by_kind class test b e t c = implied_at class test b kinds e (tag t.kind) (tag_below t.kind) c
 
 -- ---- ranks
 
@@ -142,6 +152,12 @@ rank_by_mark m.Star = refl
 rank_by_mark m.And = refl
 rank_by_mark m.Or = refl
 rank_by_mark m.Xor = refl
+rank_by_mark m.Same = refl
+rank_by_mark m.Differs = refl
+rank_by_mark m.Less = refl
+rank_by_mark m.AtMost = refl
+rank_by_mark m.More = refl
+rank_by_mark m.AtLeast = refl
 
 pub rank_by_tag : (kind : TokenKind) → rank_of kind ≡ rank_at (tag kind)
 rank_by_tag k.Name = refl
@@ -150,7 +166,7 @@ rank_by_tag (k.Word word) = rank_by_keyword word
 rank_by_tag (k.Sign mark) = rank_by_mark mark
 
 -- a class without operators
-pub no_rank : (class : ℕ → Bool) → implied class (λ n. eqb (rank_at n) 0) true 30 ≡ true → (t : Token) → In class t → rank_of t.kind ≡ 0
+pub no_rank : (class : ℕ → Bool) → implied class (λ n. eqb (rank_at n) 0) true kinds ≡ true → (t : Token) → In class t → rank_of t.kind ≡ 0
 no_rank class e t c = rank_by_tag t.kind ∙ eqb-true (rank_at (tag t.kind)) 0 (by_kind class (λ n. eqb (rank_at n) 0) true e t c)
 
 -- ---- first tokens
@@ -158,7 +174,7 @@ no_rank class e t c = rank_by_tag t.kind ∙ eqb-true (rank_at (tag t.kind)) 0 (
 pub starts_in : {A : Type 0} (Q Q' : Token → Type 0) (R : Phrase Token A) → ((t : Token) → Q t → Q' t) → Starts Q R → Starts Q' R
 starts_in Q Q' R h s u a r = let x = s u a r in (x.0, x.1, x.2, h x.0 x.3)
 
-pub begins_in : {A : Type 0} (class test : ℕ → Bool) (b : Bool) (F : Option Token → Bool) (R : Phrase Token A) → implied class test b 30 ≡ true → Starts (In class) R → Begins (sees (λ t. test (tag t.kind))) b F R
+pub begins_in : {A : Type 0} (class test : ℕ → Bool) (b : Bool) (F : Option Token → Bool) (R : Phrase Token A) → implied class test b kinds ≡ true → Starts (In class) R → Begins (sees (λ t. test (tag t.kind))) b F R
 begins_in class test b F R e s = begins_by (In class) R (sees (λ t. test (tag t.kind))) F b s (by_kind class test b e)
 
 -- ---- some words

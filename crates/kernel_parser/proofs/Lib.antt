@@ -1,3 +1,4 @@
+-- The lemmas of this crate: of the readers, of names, and of whole texts.
 pub mod KindTests
 pub mod Chains
 pub mod IndexSteps
@@ -17,5 +18,7 @@ pub mod Levels
 pub mod ReadIndices
 pub mod ReadExprs
 pub mod ReadKernels
+pub mod FaultPlaces
+pub mod NamesInOrder
 pub mod OneText
 pub mod NameEnds

@@ -18,7 +18,7 @@ use Rattle.kernel_parser.specs.TextLaws.{OneKernel, OneTextFault, KernelWithoutF
 use Rattle.kernel_parser.proofs.GoodKernels.{kernel_holds}
 use Rattle.kernel_parser.proofs.KernelSteps.{whole_step}
 use Rattle.kernel_parser.proofs.ReadKernels.{text_fits}
-use Rattle.word_grammar.specs.declared.fault.Fault.{Fault}
+use Rattle.word_grammar.specs.declared.fault.GrammarFault.{GrammarFault}
 use Rattle.word_grammar.specs.Faults.{IsFaultOf}
 use Rattle.word_grammar.specs.Readers.{first}
 use Rattle.word_grammar.proofs.Texts.{only_reading, one_fault, never_both as no_syntax_fault, word_or_fault}
@@ -114,7 +114,7 @@ by_names : (text : List ℕ) (ts : List Token) (a : RawKernel) → IsWritten tex
 by_names text ts a w [] e = inl (tree_of text a, record { tokens = ts; raw = a; written = w; faultless = e; means = refl })
 by_names text ts a w (f ∷ fs) e = inr (f.code, f.at, inr (inr (inr (record { tokens = ts; raw = a; written = w; here = ap first e }))))
 
-by_syntax : (text : List ℕ) (ts : List Token) → length text ≤ 65536 → AreTextTokens text ts → ((a : RawKernel) × Whole 32 ts a) ⊎ ((f : Fault) × (rest : List Token) × IsFaultOf Whole 32 f ts rest) → Answer text
+by_syntax : (text : List ℕ) (ts : List Token) → length text ≤ 65536 → AreTextTokens text ts → ((a : RawKernel) × Whole 32 ts a) ⊎ ((f : GrammarFault) × (rest : List Token) × IsFaultOf Whole 32 f ts rest) → Answer text
 by_syntax text ts short s (inl (a, r)) = by_names text ts a (record { short = short; spelled = s; read = r }) (name_faults text a) refl
 by_syntax text ts short s (inr (f, rest, h)) =
     inr (syntax_code f, place_of (length text) rest, inr (inr (inl (record { short = short; tokens = ts; spelled = s; fault = f; rest = rest; here = h; code_is = refl; at_is = refl }))))

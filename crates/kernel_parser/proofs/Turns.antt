@@ -2,16 +2,16 @@
 use Rattle.std.proofs.Common.{◌≡◌, ℕ, zero, suc, ◌-◌, ◌<◌, ◌≤◌, Bool, true, false, cond, List, [], ◌∷◌, ◌++◌, length, Option, refl, sym, ap, ◌∙◌, arith}
 use Rattle.kernel_lexer.specs.declared.token.Keyword.TheVariants as w
 use Rattle.kernel_lexer.specs.declared.token.Token.{Token}
-use Rattle.kernel_parser.specs.Tokens.{word, is_operator, opens_index, opens, is_role, starts}
+use Rattle.kernel_parser.specs.Tokens.{word, is_operator, opens_index, opens, opens_statement, is_role, starts}
 use Rattle.kernel_parser.specs.Trees as tree
 use Rattle.kernel_parser.specs.Grammar as rule
-use Rattle.kernel_parser.specs.Parsing.{linked, chained, ranked, index_leaf, index_opened, index_unary, leaf, opened, unary, assigned, looped, statement, declared}
+use Rattle.kernel_parser.specs.Parsing.{linked, chained, ranked, index_leaf, index_opened, index_unary, leaf, opened, unary, assigned, looped, branched, nested, statement, declared}
 use Rattle.kernel_parser.proofs.Chains.{After, after_place, any_passes, place_passes, ranked_step}
 use Rattle.kernel_parser.proofs.IndexSteps.{index_unary_step}
 use Rattle.kernel_parser.proofs.ExprSteps.{unary_step}
-use Rattle.kernel_parser.proofs.StatementSteps.{statement_begins, statement_step}
+use Rattle.kernel_parser.proofs.StatementSteps.{after_statement, statement_begins, statement_step}
 use Rattle.kernel_parser.proofs.KernelSteps.{declared_begins, declared_step}
-use Rattle.word_grammar.specs.declared.fault.Fault.TheVariants.{TooDeep}
+use Rattle.word_grammar.specs.declared.fault.GrammarFault.TheVariants.{TooDeep}
 use Rattle.word_grammar.specs.Phrases.{Phrase}
 use Rattle.word_grammar.specs.Readers.{Got, Bad, Reader, first, sees, one, deep, either, many, with_front}
 use Rattle.word_grammar.proofs.Parts.{Sound}
@@ -53,18 +53,24 @@ unary_opened (suc d) ts h e =
     let same : suc d - 1 ≡ d = omega arith in
     either_first (sees opens) (opened (unary d)) (leaf (suc d)) ts e ∙ ap (λ n. opened (unary n) ts) (sym same)
 
-pub statement_assigned : (d : ℕ) (ts : List Token) → sees (word w.Loop) (first ts) ≡ false → statement d ts ≡ assigned d ts
-statement_assigned zero ts e = either_second (sees (word w.Loop)) deep (assigned 0) ts e
-statement_assigned (suc d) ts e = either_second (sees (word w.Loop)) (looped d (statement d)) (assigned (suc d)) ts e
+pub statement_assigned : (d : ℕ) (ts : List Token) → sees opens_statement (first ts) ≡ false → statement d ts ≡ assigned d ts
+statement_assigned zero ts e = either_second (sees opens_statement) deep (assigned 0) ts e
+statement_assigned (suc d) ts e = either_second (sees opens_statement) (nested d (statement d)) (assigned (suc d)) ts e
 
-pub statement_deep : (ts : List Token) → sees (word w.Loop) (first ts) ≡ true → statement 0 ts ≡ Bad TooDeep ts
-statement_deep ts e = either_first (sees (word w.Loop)) deep (assigned 0) ts e
+pub statement_deep : (ts : List Token) → sees opens_statement (first ts) ≡ true → statement 0 ts ≡ Bad TooDeep ts
+statement_deep ts e = either_first (sees opens_statement) deep (assigned 0) ts e
 
-pub statement_looped : (d : ℕ) (ts : List Token) → 0 < d → sees (word w.Loop) (first ts) ≡ true → statement d ts ≡ looped (d - 1) (statement (d - 1)) ts
-statement_looped zero ts h e = absurd (omega arith)
-statement_looped (suc d) ts h e =
+pub statement_nested : (d : ℕ) (ts : List Token) → 0 < d → sees opens_statement (first ts) ≡ true → statement d ts ≡ nested (d - 1) (statement (d - 1)) ts
+statement_nested zero ts h e = absurd (omega arith)
+statement_nested (suc d) ts h e =
     let same : suc d - 1 ≡ d = omega arith in
-    either_first (sees (word w.Loop)) (looped d (statement d)) (assigned (suc d)) ts e ∙ ap (λ n. looped n (statement n) ts) (sym same)
+    either_first (sees opens_statement) (nested d (statement d)) (assigned (suc d)) ts e ∙ ap (λ n. nested n (statement n) ts) (sym same)
+
+pub nested_looped : (d : ℕ) (ts : List Token) → sees (word w.Loop) (first ts) ≡ true → nested d (statement d) ts ≡ looped d (statement d) ts
+nested_looped d ts e = either_first (sees (word w.Loop)) (looped d (statement d)) (branched d (statement d)) ts e
+
+pub nested_branched : (d : ℕ) (ts : List Token) → sees (word w.Loop) (first ts) ≡ false → nested d (statement d) ts ≡ branched d (statement d) ts
+nested_branched d ts e = either_second (sees (word w.Loop)) (looped d (statement d)) (branched d (statement d)) ts e
 
 -- ---- levels of operators
 
@@ -103,7 +109,7 @@ ranked_sound rank d h = (ranked_step tree.link tree.chain TooDeep after_place pl
 -- ---- lists
 
 pub statement_shrinks : (d : ℕ) → Shrinks (statement d)
-statement_shrinks d = sound_shrinks (sees starts) any (statement d) (rule.Statement d) refl (statement_begins d) (statement_step TooDeep d d refl).low.sound
+statement_shrinks d = sound_shrinks (sees starts) after_statement (statement d) (rule.Statement d) refl (statement_begins d) (statement_step TooDeep d d refl).low.sound
 
 pub declared_shrinks : Shrinks declared
 declared_shrinks = sound_shrinks (sees is_role) any declared rule.Declared refl declared_begins (declared_step TooDeep).low.sound

@@ -11,9 +11,10 @@ use Rattle.kernel_parser.specs.declared.raw.RawPlace.{RawPlace}
 use Rattle.kernel_parser.specs.declared.raw.RawExpr.{RawExpr}
 use Rattle.kernel_parser.specs.declared.raw.RawExpr.TheVariants as node
 use Rattle.kernel_parser.specs.declared.raw.RawLoop.{RawLoop}
+use Rattle.kernel_parser.specs.declared.raw.RawBranch.{RawBranch}
 use Rattle.kernel_parser.specs.declared.raw.RawStmt.{RawStmt}
 use Rattle.kernel_parser.specs.declared.raw.RawKernel.{RawKernel}
-use Rattle.kernel_parser.specs.Tokens.{is_name, is_number, word, sign, is_role, is_pair, is_triple, is_operator}
+use Rattle.kernel_parser.specs.Tokens.{is_name, is_number, word, sign, is_role, is_pair, is_triple, is_relation, is_operator}
 use Rattle.kernel_parser.specs.Trees as tree
 use Rattle.word_grammar.specs.Phrases.{Phrase, One, Both, Either, Made, Many, Maybe}
 
@@ -120,18 +121,43 @@ Expr d = ExprOf (Unary d)
 abbrev pub Assigned : ℕ → Phrase Token RawStmt
 Assigned d = Made tree.assign (Both (Place d) (Both (One (sign m.Assign)) (Both (Expr d) (One (sign m.Semicolon)))))
 
--- "for" name "in" index ".." index
+-- "{" { stmt } "}"
+abbrev pub Block : Phrase Token RawStmt → Phrase Token (List RawStmt)
+Block R = Made tree.inside (Both (One (sign m.OpenBrace)) (Both (Many R) (One (sign m.CloseBrace))))
+
+-- "by" index
+abbrev pub Step : ℕ → Phrase Token RawIndex
+Step d = Made tree.behind (Both (One (word w.By)) (Index d))
+
+-- "for" name "in" index ".." index [ "by" index ]
 abbrev pub Header : ℕ → Phrase Token RawLoop
-Header d = Made tree.header (Both (One (word w.Loop)) (Both (One is_name) (Both (One (word w.Input)) (Both (Index d) (Both (One (sign m.Dots)) (Index d))))))
+Header d = Made tree.header (Both (One (word w.Loop)) (Both (One is_name) (Both (One (word w.Input)) (Both (Index d) (Both (One (sign m.Dots)) (Both (Index d) (Maybe (Step d))))))))
 
--- the header of a loop, and "{" { stmt } "}"
+-- the header of a loop, and its body
 abbrev pub Looped : ℕ → Phrase Token RawStmt → Phrase Token RawStmt
-Looped d R = Made tree.loop (Both (Header d) (Both (One (sign m.OpenBrace)) (Both (Many R) (One (sign m.CloseBrace)))))
+Looped d R = Made tree.loop (Both (Header d) (Block R))
 
--- stmt = place "=" expr ";" | "for" name "in" index ".." index "{" { stmt } "}"
+-- "if" index rel index
+abbrev pub Condition : ℕ → Phrase Token RawBranch
+Condition d = Made tree.condition (Both (One (word w.If)) (Both (Index d) (Both (One is_relation) (Index d))))
+
+-- "else" "{" { stmt } "}"
+abbrev pub Otherwise : Phrase Token RawStmt → Phrase Token (List RawStmt)
+Otherwise R = Made tree.behind (Both (One (word w.Else)) (Block R))
+
+-- the condition of a branch, and its bodies
+abbrev pub Branched : ℕ → Phrase Token RawStmt → Phrase Token RawStmt
+Branched d R = Made tree.branch (Both (Condition d) (Both (Block R) (Maybe (Otherwise R))))
+
+-- a loop or a branch
+abbrev pub Nested : ℕ → Phrase Token RawStmt → Phrase Token RawStmt
+Nested d R = Either (Looped d R) (Branched d R)
+
+-- stmt = place "=" expr ";" | "for" name "in" index ".." index [ "by" index ] "{" { stmt } "}"
+--      | "if" index rel index "{" { stmt } "}" [ "else" "{" { stmt } "}" ]
 abbrev pub Statement : ℕ → Phrase Token RawStmt
 Statement zero = Assigned 0
-Statement (suc d) = Either (Looped d (Statement d)) (Assigned (suc d))
+Statement (suc d) = Either (Nested d (Statement d)) (Assigned (suc d))
 
 -- ---- kernels
 

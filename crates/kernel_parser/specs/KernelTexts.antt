@@ -15,16 +15,20 @@ use Rattle.kernel_parser.specs.Grammar.{Whole}
 use Rattle.kernel_parser.specs.Names.{name_faults}
 use Rattle.kernel_parser.specs.Reading.{place_of}
 use Rattle.kernel_parser.specs.Resolved.{tree_of}
-use Rattle.word_grammar.specs.declared.fault.Fault.{Fault as GrammarFault}
-use Rattle.word_grammar.specs.declared.fault.Fault.TheVariants.{Syntax, TooDeep}
+use Rattle.word_grammar.specs.declared.fault.GrammarFault.{GrammarFault}
+use Rattle.word_grammar.specs.declared.fault.GrammarFault.TheVariants.{Syntax, TooDeep}
 use Rattle.word_grammar.specs.Faults.{IsFaultOf}
 use Rattle.word_grammar.specs.Readers.{first}
 
 -- ---- kernels
 
+-- the most bytes that a text may have
+abbrev pub most_bytes : ℕ
+most_bytes = 65536
+
 -- The text is not too long, these are its tokens, and this is how they are read.
 pub record IsWritten (text : List ℕ) (tokens : List Token) (raw : RawKernel) : Type 0 where
-  pub short : length text ≤ 65536
+  pub short : length text ≤ most_bytes
   pub spelled : AreTextTokens text tokens
   pub read : Whole 32 tokens raw
 
@@ -38,15 +42,19 @@ pub record Reads (text : List ℕ) (kernel : KernelParts) : Type 0 where
 
 -- ---- faults
 
+-- the code of a text that is too long
+abbrev pub too_long : ℕ
+too_long = 15
+
 -- 15: the text has more than 65,536 bytes; at the first byte too many
 pub record IsTooLong (text : List ℕ) (code at : ℕ) : Type 0 where
-  pub long : 65536 < length text
-  pub code_is : code ≡ 15
-  pub at_is : at ≡ 65536
+  pub long : most_bytes < length text
+  pub code_is : code ≡ too_long
+  pub at_is : at ≡ most_bytes
 
 -- 1, 2: the text is not too long, and its tokens have this first fault
 pub record IsTokenFault (text : List ℕ) (code at : ℕ) : Type 0 where
-  pub short : length text ≤ 65536
+  pub short : length text ≤ most_bytes
   pub fault : IsTextFault text code at
 
 -- the codes of the faults of syntax
@@ -56,7 +64,7 @@ syntax_code TooDeep = 13
 
 -- 3, 13: the text has tokens, and the grammar has this first fault in them; at its token or the text's end
 pub record IsSyntaxFault (text : List ℕ) (code at : ℕ) : Type 0 where
-  pub short : length text ≤ 65536
+  pub short : length text ≤ most_bytes
   pub tokens : List Token
   pub spelled : AreTextTokens text tokens
   pub fault : GrammarFault

@@ -3,7 +3,7 @@ use Rattle.std.specs.Prelude.{◌≡◌, ℕ, ◌≤◌, ◌⊎◌, List}
 use Rattle.kernel_lexer.specs.declared.token.Token.{Token}
 use Rattle.kernel_parser.specs.declared.raw.RawKernel.{RawKernel}
 use Rattle.kernel_parser.specs.Grammar.{Whole}
-use Rattle.word_grammar.specs.declared.fault.Fault.{Fault}
+use Rattle.word_grammar.specs.declared.fault.GrammarFault.{GrammarFault}
 use Rattle.word_grammar.specs.Faults.{IsFaultOf}
 
 -- Tokens have at most one reading, whatever the levels.
@@ -16,12 +16,12 @@ MoreLevels = (d e : ℕ) (tokens : List Token) (a : RawKernel) → d ≤ e → W
 
 -- Tokens have at most one first fault.
 abbrev pub OneFault : Type 0
-OneFault = (limit : ℕ) (f g : Fault) (tokens r s : List Token) → IsFaultOf Whole limit f tokens r → IsFaultOf Whole limit g tokens s → (f ≡ g) × (r ≡ s)
+OneFault = (limit : ℕ) (f g : GrammarFault) (tokens r s : List Token) → IsFaultOf Whole limit f tokens r → IsFaultOf Whole limit g tokens s → (f ≡ g) × (r ≡ s)
 
 -- Tokens that have a reading within the limit have no fault.
 abbrev pub NeverBoth : Type 0
-NeverBoth = (limit : ℕ) (tokens : List Token) (a : RawKernel) (f : Fault) (rest : List Token) → Whole limit tokens a → IsFaultOf Whole limit f tokens rest → ⊥
+NeverBoth = (limit : ℕ) (tokens : List Token) (a : RawKernel) (f : GrammarFault) (rest : List Token) → Whole limit tokens a → IsFaultOf Whole limit f tokens rest → ⊥
 
 -- Tokens have a reading within the limit or a fault.
 abbrev pub ReadingOrFault : Type 0
-ReadingOrFault = (limit : ℕ) (tokens : List Token) → ((a : RawKernel) × Whole limit tokens a) ⊎ ((f : Fault) × (rest : List Token) × IsFaultOf Whole limit f tokens rest)
+ReadingOrFault = (limit : ℕ) (tokens : List Token) → ((a : RawKernel) × Whole limit tokens a) ⊎ ((f : GrammarFault) × (rest : List Token) × IsFaultOf Whole limit f tokens rest)

@@ -1,3 +1,4 @@
+-- The definitions of this crate: the grammar and its readers, the faults and the meaning of names, and what a text stands for.
 pub mod Tokens
 pub mod Trees
 pub mod Grammar
@@ -6,6 +7,7 @@ pub mod Reading
 pub mod Syntax
 pub mod Laws
 pub mod NameFaults
+pub mod NameOrder
 pub mod Names
 pub mod Scopes
 pub mod Resolved

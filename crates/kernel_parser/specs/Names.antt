@@ -4,7 +4,7 @@ use Rattle.kernel_ast.specs.KernelParts.{Declared}
 use Rattle.kernel_ast.specs.WellFormed.{has_sizes, is_writable}
 use Rattle.kernel_parser.specs.declared.names.scope.Meaning.{Meaning}
 use Rattle.kernel_parser.specs.declared.names.scope.Meaning.TheVariants.{Turn, Element, Unknown}
-use Rattle.kernel_parser.specs.declared.names.fault.Fault.TheVariants as faults
+use Rattle.kernel_parser.specs.declared.names.fault.NameRule.TheVariants as faults
 use Rattle.kernel_ast.specs.Walk.{joined}
 use Rattle.kernel_parser.specs.NameFaults.{NameFault, fault, unless}
 use Rattle.kernel_parser.specs.declared.raw.Span.{Span}
@@ -21,8 +21,9 @@ use Rattle.kernel_parser.specs.declared.raw.RawExpr.TheOpen.{RawExpr-F, RawLink-
 use Rattle.kernel_parser.specs.declared.raw.RawExpr.TheFolds.{fold-RawLink}
 use Rattle.kernel_parser.specs.declared.raw.RawLink.{RawLink}
 use Rattle.kernel_parser.specs.declared.raw.RawLoop.{RawLoop}
+use Rattle.kernel_parser.specs.declared.raw.RawBranch.{RawBranch}
 use Rattle.kernel_parser.specs.declared.raw.RawStmt.{RawStmt, fold-RawStmt}
-use Rattle.kernel_parser.specs.declared.raw.RawStmt.TheOpen.{RawStmt-F, Assign, Loop}
+use Rattle.kernel_parser.specs.declared.raw.RawStmt.TheOpen.{RawStmt-F, Assign, Loop, Branch}
 use Rattle.kernel_parser.specs.declared.raw.RawKernel.{RawKernel}
 
 -- ---- what names stand for
@@ -136,9 +137,18 @@ twice_faults (Turn k) at = fault faults.Twice at ∷ []
 twice_faults (Element d) at = fault faults.Twice at ∷ []
 twice_faults Unknown at = []
 
+-- the faults of a step, if one is written
+abbrev pub step_faults : Known → Option RawIndex → List NameFault
+step_faults known None = []
+step_faults known (Some by) = index_faults known by
+
 -- the faults of what stands before a loop's body: the loop's name is not known there
 abbrev pub header_faults : Known → RawLoop → List NameFault
-header_faults known l = twice_faults (meaning known l.name) l.name.from ++ (index_faults known l.from ++ index_faults known l.to)
+header_faults known l = twice_faults (meaning known l.name) l.name.from ++ (index_faults known l.from ++ (index_faults known l.to ++ step_faults known l.by))
+
+-- the faults of the sides of a branch
+abbrev pub condition_faults : Known → RawBranch → List NameFault
+condition_faults known b = index_faults known b.left ++ index_faults known b.right
 
 -- what is known in this text, with these declarations and open loops
 abbrev pub known_in : List ℕ → List Declared → List (List ℕ) → Known
@@ -157,6 +167,7 @@ assign_faults known target value = target_place_faults known target ++ expr_faul
 abbrev pub stmt_faults_step : List ℕ → List Declared → RawStmt-F (List (List ℕ) → List NameFault) → List (List ℕ) → List NameFault
 stmt_faults_step text decls (Assign target value) loops = assign_faults (known_in text decls loops) target value
 stmt_faults_step text decls (Loop header body) loops = header_faults (known_in text decls loops) header ++ all_in body (loops ++ word text header.name ∷ [])
+stmt_faults_step text decls (Branch condition taken other) loops = condition_faults (known_in text decls loops) condition ++ (all_in taken loops ++ all_in other loops)
 
 -- the faults of a statement in these loops
 abbrev pub stmt_faults : List ℕ → List Declared → RawStmt → List (List ℕ) → List NameFault

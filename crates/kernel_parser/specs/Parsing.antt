@@ -10,9 +10,10 @@ use Rattle.kernel_parser.specs.declared.raw.RawPlace.{RawPlace}
 use Rattle.kernel_parser.specs.declared.raw.RawExpr.{RawExpr}
 use Rattle.kernel_parser.specs.declared.raw.RawExpr.TheVariants as node
 use Rattle.kernel_parser.specs.declared.raw.RawLoop.{RawLoop}
+use Rattle.kernel_parser.specs.declared.raw.RawBranch.{RawBranch}
 use Rattle.kernel_parser.specs.declared.raw.RawStmt.{RawStmt}
 use Rattle.kernel_parser.specs.declared.raw.RawKernel.{RawKernel}
-use Rattle.kernel_parser.specs.Tokens.{is_name, is_number, word, sign, is_role, is_pair, is_triple, opens_index, opens, starts, is_operator}
+use Rattle.kernel_parser.specs.Tokens.{is_name, is_number, word, sign, is_role, is_pair, is_triple, opens_index, opens, opens_statement, starts, is_relation, is_operator}
 use Rattle.kernel_parser.specs.Trees as tree
 use Rattle.word_grammar.specs.Readers.{Reader, sees, one, deep, both, made, either, many, maybe, closed}
 
@@ -98,18 +99,41 @@ expr d = expr_of (unary d)
 
 -- ---- statements
 
+-- behind a statement stands no `else`
+abbrev pub whole_statement : {A : Type 0} → Reader Token A → Reader Token A
+whole_statement p = closed (sees (word w.Else)) p
+
 abbrev pub assigned : ℕ → Reader Token RawStmt
-assigned d = made tree.assign (both (place d) (both (one (sign m.Assign)) (both (expr d) (one (sign m.Semicolon)))))
+assigned d = made tree.assign (both (place d) (both (one (sign m.Assign)) (both (expr d) (whole_statement (one (sign m.Semicolon))))))
+
+abbrev pub block : Reader Token RawStmt → Reader Token (List RawStmt)
+block p = made tree.inside (both (one (sign m.OpenBrace)) (both (many (sees starts) p) (one (sign m.CloseBrace))))
+
+-- behind a step stands no other
+abbrev pub step : ℕ → Reader Token RawIndex
+step d = made tree.behind (both (one (word w.By)) (closed (sees (word w.By)) (index d)))
 
 abbrev pub header : ℕ → Reader Token RawLoop
-header d = made tree.header (both (one (word w.Loop)) (both (one is_name) (both (one (word w.Input)) (both (index d) (both (one (sign m.Dots)) (index d))))))
+header d = made tree.header (both (one (word w.Loop)) (both (one is_name) (both (one (word w.Input)) (both (index d) (both (one (sign m.Dots)) (both (index d) (maybe (sees (word w.By)) (step d))))))))
 
 abbrev pub looped : ℕ → Reader Token RawStmt → Reader Token RawStmt
-looped d p = made tree.loop (both (header d) (both (one (sign m.OpenBrace)) (both (many (sees starts) p) (one (sign m.CloseBrace)))))
+looped d p = made tree.loop (both (header d) (whole_statement (block p)))
+
+abbrev pub condition : ℕ → Reader Token RawBranch
+condition d = made tree.condition (both (one (word w.If)) (both (index d) (both (one is_relation) (index d))))
+
+abbrev pub otherwise : Reader Token RawStmt → Reader Token (List RawStmt)
+otherwise p = made tree.behind (both (one (word w.Else)) (whole_statement (block p)))
+
+abbrev pub branched : ℕ → Reader Token RawStmt → Reader Token RawStmt
+branched d p = made tree.branch (both (condition d) (both (block p) (maybe (sees (word w.Else)) (otherwise p))))
+
+abbrev pub nested : ℕ → Reader Token RawStmt → Reader Token RawStmt
+nested d p = either (sees (word w.Loop)) (looped d p) (branched d p)
 
 abbrev pub statement : ℕ → Reader Token RawStmt
-statement zero = either (sees (word w.Loop)) deep (assigned 0)
-statement (suc d) = either (sees (word w.Loop)) (looped d (statement d)) (assigned (suc d))
+statement zero = either (sees opens_statement) deep (assigned 0)
+statement (suc d) = either (sees opens_statement) (nested d (statement d)) (assigned (suc d))
 
 -- ---- kernels
 

@@ -1,6 +1,6 @@
 -- Which trees of a text make a well formed kernel, as long as their names have no fault: what the grammar itself promises (this
 -- project's convention).
-use Rattle.std.specs.Prelude.{◌≡◌, ◌≤◌, ℕ, suc, Bool, true, ◌&&◌, ◌==◌, nat_lt, nat_le, List, map, length}
+use Rattle.std.specs.Prelude.{◌≡◌, ◌≤◌, ℕ, suc, Bool, true, ◌&&◌, ◌==◌, nat_lt, nat_le, List, map, length, Option, Some, None}
 use Rattle.std.specs.List.{All}
 use Rattle.comp_graph.specs.declared.operation.Op.{Op}
 use Rattle.comp_graph.specs.Operations.{arity_of}
@@ -14,11 +14,12 @@ use Rattle.kernel_parser.specs.declared.raw.RawPlace.{RawPlace}
 use Rattle.kernel_parser.specs.declared.raw.RawExpr.{RawExpr, fold-RawExpr}
 use Rattle.kernel_parser.specs.declared.raw.RawExpr.TheOpen.{RawExpr-F, RawLink-F, Number, Place, Minus, Chain, Call}
 use Rattle.kernel_parser.specs.declared.raw.RawLoop.{RawLoop}
+use Rattle.kernel_parser.specs.declared.raw.RawBranch.{RawBranch}
 use Rattle.kernel_parser.specs.declared.raw.RawStmt.{RawStmt, fold-RawStmt}
-use Rattle.kernel_parser.specs.declared.raw.RawStmt.TheOpen.{RawStmt-F, Assign, Loop}
+use Rattle.kernel_parser.specs.declared.raw.RawStmt.TheOpen.{RawStmt-F, Assign, Loop, Branch}
 use Rattle.kernel_parser.specs.declared.raw.RawKernel.{RawKernel}
 use Rattle.kernel_parser.specs.Names.{word}
-use Rattle.kernel_parser.specs.RawWeights.{assign_weight, loop_weight}
+use Rattle.kernel_parser.specs.RawWeights.{assign_weight, loop_weight, branch_weight}
 
 -- one layer of an index: numbers are numbers, and chains have operators of one level
 abbrev pub index_fits_step : index.RawIndexTree-F Bool (Op × Bool) → Bool
@@ -59,14 +60,24 @@ link_step l = (l.op, l.value)
 abbrev pub expr_fits : RawExpr → Bool
 expr_fits = fold-RawExpr Bool (Op × Bool) expr_fits_step link_step
 
--- both bounds of a loop fit
+-- a step fits, if one is written
+abbrev pub step_fits : Option RawIndex → Bool
+step_fits None = true
+step_fits (Some by) = index_fits by
+
+-- both bounds of a loop and its step fit
 abbrev pub header_fits : RawLoop → Bool
-header_fits l = index_fits l.from && index_fits l.to
+header_fits l = index_fits l.from && (index_fits l.to && step_fits l.by)
+
+-- both sides of a branch fit
+abbrev pub condition_fits : RawBranch → Bool
+condition_fits b = index_fits b.left && index_fits b.right
 
 -- one layer of a statement in so many loops: its parts fit, its weight is at most 65,536, and at most 32 loops stand in one another
 abbrev pub stmt_fits_step : RawStmt-F (ℕ → Bool) → ℕ → Bool
 stmt_fits_step (Assign target value) loops = place_fits target && (expr_fits value && nat_le (assign_weight target value) 65536)
 stmt_fits_step (Loop header body) loops = nat_lt loops 32 && (header_fits header && (nat_le (loop_weight header) 65536 && all_at (suc loops) body))
+stmt_fits_step (Branch condition taken other) loops = condition_fits condition && (nat_le (branch_weight condition) 65536 && (all_at loops taken && all_at loops other))
 
 -- a statement fits where it stands in so many loops
 abbrev pub stmt_fits : RawStmt → ℕ → Bool

@@ -1,6 +1,6 @@
 -- How many turns a statement counts as it is reached, on the tree as it is written (this project's convention): 1, and 1 for each
 -- number, name, operator sign and function word in it.
-use Rattle.std.specs.Prelude.{◌+◌, ℕ, map, sum}
+use Rattle.std.specs.Prelude.{◌+◌, ℕ, map, sum, Option, Some, None}
 use Rattle.kernel_parser.specs.declared.raw.RawIndexTree.{RawIndexTree, fold-RawIndexTree}
 use Rattle.kernel_parser.specs.declared.raw.RawIndexTree.TheOpen as index
 use Rattle.kernel_parser.specs.declared.raw.RawIndex.{RawIndex}
@@ -8,6 +8,7 @@ use Rattle.kernel_parser.specs.declared.raw.RawPlace.{RawPlace}
 use Rattle.kernel_parser.specs.declared.raw.RawExpr.{RawExpr, fold-RawExpr}
 use Rattle.kernel_parser.specs.declared.raw.RawExpr.TheOpen.{RawExpr-F, RawLink-F, Number, Place, Minus, Chain, Call}
 use Rattle.kernel_parser.specs.declared.raw.RawLoop.{RawLoop}
+use Rattle.kernel_parser.specs.declared.raw.RawBranch.{RawBranch}
 
 -- one layer of an index: a number or a name counts 1, a minus 1 more than its operand
 abbrev pub tree_weight_step : index.RawIndexTree-F ℕ ℕ → ℕ
@@ -52,6 +53,15 @@ expr_weight = fold-RawExpr ℕ ℕ expr_weight_step link_step
 abbrev pub assign_weight : RawPlace → RawExpr → ℕ
 assign_weight target value = 1 + (place_weight target + expr_weight value)
 
--- a loop counts 1 and both its bounds
+-- the weight of a step, 0 where none is written
+abbrev pub step_weight : Option RawIndex → ℕ
+step_weight None = 0
+step_weight (Some by) = index_weight by
+
+-- a loop counts 1, both its bounds and its step
 abbrev pub loop_weight : RawLoop → ℕ
-loop_weight l = 1 + (index_weight l.from + index_weight l.to)
+loop_weight l = 1 + (index_weight l.from + (index_weight l.to + step_weight l.by))
+
+-- a branch counts 1 and both its sides
+abbrev pub branch_weight : RawBranch → ℕ
+branch_weight b = 1 + (index_weight b.left + index_weight b.right)

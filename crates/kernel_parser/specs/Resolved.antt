@@ -1,6 +1,6 @@
 -- The tree of a kernel whose names are known (this project's convention). What is said of a name that is not known, or is at fault
 -- in another way, has no meaning: such a kernel has faults.
-use Rattle.std.specs.Prelude.{ℕ, pos, List, [], ◌∷◌, ◌++◌, map}
+use Rattle.std.specs.Prelude.{ℕ, pos, List, [], ◌∷◌, ◌++◌, map, Option, Some, None}
 use Rattle.kernel_ast.specs.KernelParts.{Declared, KernelParts}
 use Rattle.kernel_ast.specs.declared.tree.IndexTree.{IndexTree}
 use Rattle.kernel_ast.specs.declared.tree.IndexTree.TheVariants as index
@@ -25,7 +25,7 @@ use Rattle.kernel_parser.specs.declared.raw.RawExpr.TheOpen.{RawExpr-F, RawLink-
 use Rattle.kernel_parser.specs.declared.raw.RawExpr.TheFolds.{fold-RawLink}
 use Rattle.kernel_parser.specs.declared.raw.RawLink.{RawLink}
 use Rattle.kernel_parser.specs.declared.raw.RawStmt.{RawStmt, fold-RawStmt}
-use Rattle.kernel_parser.specs.declared.raw.RawStmt.TheOpen.{RawStmt-F, Assign, Loop}
+use Rattle.kernel_parser.specs.declared.raw.RawStmt.TheOpen.{RawStmt-F, Assign, Loop, Branch}
 use Rattle.kernel_parser.specs.declared.raw.RawKernel.{RawKernel}
 use Rattle.kernel_parser.specs.Names.{Known, meaning, word, known_in, declared}
 
@@ -57,6 +57,11 @@ index_link known = fold-RawIndexLink IndexTree IndexLink (index_tree_step known)
 -- an index
 abbrev pub index_of : Known → RawIndex → Index
 index_of known i = record { at = i.at; tree = index_tree known i.tree }
+
+-- a step, if one is written
+abbrev pub step_of : Known → Option RawIndex → Option Index
+step_of known None = None
+step_of known (Some by) = Some (index_of known by)
 
 -- a name in an expression: the index of an open loop, or an element
 abbrev pub read_of : Meaning → List Index → ℕ → Expr
@@ -111,7 +116,10 @@ all_in (f ∷ fs) loops = f loops ∷ all_in fs loops
 abbrev pub stmt_step : List ℕ → List Declared → RawStmt-F (List (List ℕ) → Stmt) → List (List ℕ) → Stmt
 stmt_step text decls (Assign target value) loops = assign_of (known_in text decls loops) target value
 stmt_step text decls (Loop header body) loops =
-    stmt.Loop (index_of (known_in text decls loops) header.from) (index_of (known_in text decls loops) header.to) (all_in body (loops ++ word text header.name ∷ [])) header.at
+    stmt.Loop (index_of (known_in text decls loops) header.from) (index_of (known_in text decls loops) header.to) (step_of (known_in text decls loops) header.by)
+    (all_in body (loops ++ word text header.name ∷ [])) header.at
+stmt_step text decls (Branch condition taken other) loops =
+    stmt.Branch (index_of (known_in text decls loops) condition.left) condition.rel (index_of (known_in text decls loops) condition.right) (all_in taken loops) (all_in other loops) condition.at
 
 -- a statement in these loops
 abbrev pub stmt_of : List ℕ → List Declared → RawStmt → List (List ℕ) → Stmt

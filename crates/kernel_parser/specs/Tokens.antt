@@ -9,6 +9,8 @@ use Rattle.kernel_lexer.specs.declared.token.TokenKind.TheVariants as k
 use Rattle.kernel_lexer.specs.declared.token.Token.{Token}
 use Rattle.comp_graph.specs.declared.operation.Op.{Op}
 use Rattle.comp_graph.specs.declared.operation.Op.TheVariants as op
+use Rattle.kernel_ast.specs.declared.tree.Relation.{Relation}
+use Rattle.kernel_ast.specs.declared.tree.Relation.TheVariants as rel
 use Rattle.kernel_ast.specs.declared.tree.DeclKind.{DeclKind}
 use Rattle.kernel_ast.specs.declared.tree.DeclKind.TheVariants as role
 use Rattle.kernel_parser.specs.declared.class.TokenClass.{TokenClass}
@@ -50,6 +52,12 @@ mark_tag m.Star = 26
 mark_tag m.And = 27
 mark_tag m.Or = 28
 mark_tag m.Xor = 29
+mark_tag m.Same = 30
+mark_tag m.Differs = 31
+mark_tag m.Less = 32
+mark_tag m.AtMost = 33
+mark_tag m.More = 34
+mark_tag m.AtLeast = 35
 
 -- the number of a kind
 abbrev pub tag : TokenKind → ℕ
@@ -99,9 +107,17 @@ opens_index t = sign m.Minus t || sign m.OpenParen t
 abbrev pub opens : Token → Bool
 opens t = opens_index t || (is_pair t || is_triple t)
 
+-- a token that opens a loop or a branch
+abbrev pub opens_statement : Token → Bool
+opens_statement t = word w.Loop t || word w.If t
+
 -- a token that begins a statement
 abbrev pub starts : Token → Bool
-starts t = word w.Loop t || is_name t
+starts t = opens_statement t || is_name t
+
+-- a sign that compares the sides of a branch
+abbrev pub is_relation : Token → Bool
+is_relation t = sign m.Same t || (sign m.Differs t || (sign m.Less t || (sign m.AtMost t || (sign m.More t || sign m.AtLeast t))))
 
 -- The levels of operators between operands, from the one that binds most: `*`, then `+` and `-`, `&`, `^`, `|`; 0 for other tokens.
 abbrev pub rank_of : TokenKind → ℕ
@@ -129,7 +145,9 @@ passes class.Pair = is_pair
 passes class.Triple = is_triple
 passes class.IndexPart = opens_index
 passes class.Part = opens
+passes class.Nested = opens_statement
 passes class.Statement = starts
+passes class.Relation = is_relation
 
 -- ---- what tokens stand for
 
@@ -154,6 +172,15 @@ op_of (k.Word w.Max) = op.Max
 op_of (k.Word w.Sel) = op.Sel
 op_of (k.Word w.Mad) = op.Mad
 op_of _ = op.Add
+
+-- how the sign of a relation compares
+abbrev pub relation_of : TokenKind → Relation
+relation_of (k.Sign m.Differs) = rel.NotEqual
+relation_of (k.Sign m.Less) = rel.Less
+relation_of (k.Sign m.AtMost) = rel.AtMost
+relation_of (k.Sign m.More) = rel.More
+relation_of (k.Sign m.AtLeast) = rel.AtLeast
+relation_of _ = rel.Equal
 
 -- what the word before a declared name says of it
 abbrev pub role_of : TokenKind → DeclKind

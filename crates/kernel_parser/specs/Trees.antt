@@ -13,8 +13,9 @@ use Rattle.kernel_parser.specs.declared.raw.RawLink.{RawLink, roll-RawLink}
 use Rattle.kernel_parser.specs.declared.raw.RawStmt.{RawStmt}
 use Rattle.kernel_parser.specs.declared.raw.RawStmt.TheVariants as stmt
 use Rattle.kernel_parser.specs.declared.raw.RawLoop.{RawLoop}
+use Rattle.kernel_parser.specs.declared.raw.RawBranch.{RawBranch}
 use Rattle.kernel_parser.specs.declared.raw.RawKernel.{RawKernel}
-use Rattle.kernel_parser.specs.Tokens.{span, number_of, op_of, role_of}
+use Rattle.kernel_parser.specs.Tokens.{span, number_of, op_of, relation_of, role_of}
 
 -- ---- brackets
 
@@ -101,13 +102,30 @@ chain p = chained p.0 p.1
 abbrev pub assign : RawPlace × (Token × (RawExpr × Token)) → RawStmt
 assign p = stmt.Assign p.0 p.1.1.0
 
--- the name and the bounds of a loop
-abbrev pub header : Token × (Token × (Token × (RawIndex × (Token × RawIndex)))) → RawLoop
-header p = record { name = span p.1.0; from = p.1.1.1.0; to = p.1.1.1.1.1; at = p.0.from }
+-- what stands behind a token
+abbrev pub behind : {A : Type 0} → Token × A → A
+behind p = p.1
+
+-- the name, the bounds and the step of a loop
+abbrev pub header : Token × (Token × (Token × (RawIndex × (Token × (RawIndex × Option RawIndex))))) → RawLoop
+header p = record { name = span p.1.0; from = p.1.1.1.0; to = p.1.1.1.1.1.0; by = p.1.1.1.1.1.1; at = p.0.from }
 
 -- a loop and its body
-abbrev pub loop : RawLoop × (Token × (List RawStmt × Token)) → RawStmt
-loop p = stmt.Loop p.0 p.1.1.0
+abbrev pub loop : RawLoop × List RawStmt → RawStmt
+loop p = stmt.Loop p.0 p.1
+
+-- the sides of a branch
+abbrev pub condition : Token × (RawIndex × (Token × RawIndex)) → RawBranch
+condition p = record { left = p.1.0; rel = relation_of p.1.1.0.kind; right = p.1.1.1; at = p.0.from }
+
+-- the second body of a branch, which is empty where none is written
+abbrev pub or_none : Option (List RawStmt) → List RawStmt
+or_none None = []
+or_none (Some body) = body
+
+-- a branch and its bodies
+abbrev pub branch : RawBranch × (List RawStmt × Option (List RawStmt)) → RawStmt
+branch p = stmt.Branch p.0 p.1.0 (or_none p.1.1)
 
 -- ---- declarations and kernels
 

@@ -4,7 +4,7 @@ ghost use Rattle.kernel_parser.specs.Tokens as spec;
 
 use crate::raw::Span;
 use comp_graph::operation::Op;
-use kernel_ast::tree::DeclKind;
+use kernel_ast::tree::{DeclKind, Relation};
 use kernel_lexer::token::{Keyword, Mark, Token, TokenKind};
 
 /// A class of tokens.
@@ -26,8 +26,12 @@ pub enum TokenClass {
     IndexPart,
     /// What opens a part of an expression.
     Part,
+    /// `for` and `if`, which open a part among the statements.
+    Nested,
     /// What begins a statement.
     Statement,
+    /// The signs that compare the sides of a branch.
+    Relation,
 }
 
 impl TokenClass {
@@ -46,8 +50,9 @@ impl TokenClass {
             TokenClass::Triple => is_triple(token),
             TokenClass::IndexPart => opens_index(token),
             TokenClass::Part => opens_index(token) || is_pair(token) || is_triple(token),
-            TokenClass::Statement => is(token, TokenKind::Word(Keyword::Loop))
-                || is(token, TokenKind::Name),
+            TokenClass::Nested => opens_statement(token),
+            TokenClass::Statement => opens_statement(token) || is(token, TokenKind::Name),
+            TokenClass::Relation => is_relation(token),
         }
     }
 }
@@ -91,6 +96,12 @@ fn mark_tag(mark: Mark) -> u8
         Mark::And => 27,
         Mark::Or => 28,
         Mark::Xor => 29,
+        Mark::Same => 30,
+        Mark::Differs => 31,
+        Mark::Less => 32,
+        Mark::AtMost => 33,
+        Mark::More => 34,
+        Mark::AtLeast => 35,
     }
 }
 
@@ -137,6 +148,23 @@ fn opens_index(token: Token) -> bool
     is(token, TokenKind::Sign(Mark::Minus)) || is(token, TokenKind::Sign(Mark::OpenParen))
 }
 
+fn opens_statement(token: Token) -> bool
+    ensures { result ≡ spec.opens_statement token }
+{
+    is(token, TokenKind::Word(Keyword::Loop)) || is(token, TokenKind::Word(Keyword::If))
+}
+
+fn is_relation(token: Token) -> bool
+    ensures { result ≡ spec.is_relation token }
+{
+    is(token, TokenKind::Sign(Mark::Same))
+        || is(token, TokenKind::Sign(Mark::Differs))
+        || is(token, TokenKind::Sign(Mark::Less))
+        || is(token, TokenKind::Sign(Mark::AtMost))
+        || is(token, TokenKind::Sign(Mark::More))
+        || is(token, TokenKind::Sign(Mark::AtLeast))
+}
+
 fn rank_of(kind: TokenKind) -> u8
     ensures { result ≡ spec.rank_of kind }
 {
@@ -166,6 +194,20 @@ pub fn op_of(kind: TokenKind) -> Op
         TokenKind::Word(Keyword::Sel) => Op::Sel,
         TokenKind::Word(Keyword::Mad) => Op::Mad,
         _ => Op::Add,
+    }
+}
+
+/// How the sign of a relation compares.
+pub fn relation_of(kind: TokenKind) -> Relation
+    ensures { result ≡ spec.relation_of kind }
+{
+    match kind {
+        TokenKind::Sign(Mark::Differs) => Relation::NotEqual,
+        TokenKind::Sign(Mark::Less) => Relation::Less,
+        TokenKind::Sign(Mark::AtMost) => Relation::AtMost,
+        TokenKind::Sign(Mark::More) => Relation::More,
+        TokenKind::Sign(Mark::AtLeast) => Relation::AtLeast,
+        _ => Relation::Equal,
     }
 }
 

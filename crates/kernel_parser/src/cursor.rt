@@ -2,29 +2,29 @@
 ghost use Rattle.std.specs.Prelude.{◌≡◌};
 ghost use Rattle.kernel_parser.specs.Tokens as token;
 ghost use Rattle.kernel_parser.specs.Parsing as spec;
-ghost use Rattle.kernel_parser.specs.Reading.{Reads, tokens_of, place_of};
+ghost use Rattle.kernel_parser.specs.Reading.{Follows, tokens_of, place_of};
 ghost use Rattle.word_grammar.specs.Readers as readers;
 
 use crate::class::TokenClass;
 use kernel_lexer::token::{Mark, Token};
 use std::alloc::AllocError;
-use word_grammar::fault::Fault;
+use word_grammar::fault::GrammarFault;
 
 /// Why reading stopped. At a fault the cursor stands before its token.
 #[derive(Debug, Drop)]
-pub enum Stop {
+pub enum ReadStop {
     NoMemory,
-    Fault(Fault),
+    Fault(GrammarFault),
 }
 
-impl From<AllocError> for Stop {
+impl From<AllocError> for ReadStop {
     ghost use Rattle.std.specs.Prelude.{◌≡◌};
-    ghost use Rattle.kernel_parser.specs.declared.cursor.Stop.TheVariants.{NoMemory};
+    ghost use Rattle.kernel_parser.specs.declared.cursor.ReadStop.TheVariants.{NoMemory};
 
     ghost from_gives = { λ _ e. e ≡ NoMemory };
 
-    fn from(_: AllocError) -> Stop {
-        Stop::NoMemory
+    fn from(_: AllocError) -> ReadStop {
+        ReadStop::NoMemory
     }
 }
 
@@ -46,29 +46,29 @@ impl<'a> Cursor<'a> {
     }
 
     /// Reads one token of the class.
-    pub fn expect(&mut self, class: TokenClass) -> Result<Token, Stop>
-        ensures { Reads (readers.one (token.passes class) (tokens_of self.old)) result (tokens_of self.new) }
+    pub fn expect(&mut self, class: TokenClass) -> Result<Token, ReadStop>
+        ensures { Follows (readers.one (token.passes class) (tokens_of self.old)) result (tokens_of self.new) }
     {
         match self.ahead {
-            [] => Err(Stop::Fault(Fault::Syntax)),
+            [] => Err(ReadStop::Fault(GrammarFault::Syntax)),
             [next, rest @ ..] => {
                 if class.holds(*next) {
                     self.ahead = rest;
                     Ok(*next)
                 } else {
-                    Err(Stop::Fault(Fault::Syntax))
+                    Err(ReadStop::Fault(GrammarFault::Syntax))
                 }
             }
         }
     }
 
     /// Reads one token of the class, behind which no bracket opens.
-    pub fn expect_last(&mut self, class: TokenClass) -> Result<Token, Stop>
-        ensures { Reads (spec.last (token.passes class) (tokens_of self.old)) result (tokens_of self.new) }
+    pub fn expect_last(&mut self, class: TokenClass) -> Result<Token, ReadStop>
+        ensures { Follows (spec.last (token.passes class) (tokens_of self.old)) result (tokens_of self.new) }
     {
         let token = self.expect(class)?;
         if self.sees(TokenClass::Sign(Mark::OpenBracket)) {
-            Err(Stop::Fault(Fault::Syntax))
+            Err(ReadStop::Fault(GrammarFault::Syntax))
         } else {
             Ok(token)
         }

@@ -2,15 +2,15 @@
 ghost use Rattle.std.specs.Prelude.{◌≡◌, ◌<◌, ◌≤◌, ◌-◌, ℕ, IfOk};
 ghost use Rattle.kernel_parser.specs.Trees as tree;
 ghost use Rattle.kernel_parser.specs.Parsing as spec;
-ghost use Rattle.kernel_parser.specs.Reading.{Reads, tokens_of};
+ghost use Rattle.kernel_parser.specs.Reading.{Follows, tokens_of};
 
 use crate::class::{TokenClass, number_of, op_of};
-use crate::cursor::{Cursor, Stop};
+use crate::cursor::{Cursor, ReadStop};
 use crate::raw::{RawExpr, RawLink};
 use kernel_lexer::token::Mark;
 use sqlite_items::{Boxed, Items};
 use std::alloc::{AllocError, Global};
-use word_grammar::fault::Fault;
+use word_grammar::fault::GrammarFault;
 
 /// The rank of `|`, the operator that binds least.
 const LOOSEST: u8 = 5;
@@ -26,8 +26,8 @@ fn chained(alloc: Global, first: RawExpr, links: Items<RawLink>) -> Result<RawEx
 }
 
 impl<'a> Cursor<'a> {
-    fn leaf(&mut self, alloc: Global, levels: usize) -> Result<RawExpr, Stop>
-        ensures { Reads (spec.leaf levels (tokens_of self.old)) result (tokens_of self.new) }
+    fn leaf(&mut self, alloc: Global, levels: usize) -> Result<RawExpr, ReadStop>
+        ensures { Follows (spec.leaf levels (tokens_of self.old)) result (tokens_of self.new) }
     {
         if self.sees(TokenClass::Number) {
             let token = self.expect_last(TokenClass::Number)?;
@@ -39,21 +39,21 @@ impl<'a> Cursor<'a> {
     }
 
     #[cycle(expr)]
-    fn unary(&mut self, alloc: Global, levels: usize) -> Result<RawExpr, Stop>
-        ensures { Reads (spec.unary levels (tokens_of self.old)) result (tokens_of self.new) }
+    fn unary(&mut self, alloc: Global, levels: usize) -> Result<RawExpr, ReadStop>
+        ensures { Follows (spec.unary levels (tokens_of self.old)) result (tokens_of self.new) }
     {
         if !self.sees(TokenClass::Part) {
             self.leaf(alloc, levels)
         } else if levels == 0 {
-            Err(Stop::Fault(Fault::TooDeep))
+            Err(ReadStop::Fault(GrammarFault::TooDeep))
         } else {
             self.opened(alloc, levels - 1)
         }
     }
 
     #[cycle(expr)]
-    fn opened(&mut self, alloc: Global, levels: usize) -> Result<RawExpr, Stop>
-        ensures { Reads (spec.opened (spec.unary levels) (tokens_of self.old)) result (tokens_of self.new) }
+    fn opened(&mut self, alloc: Global, levels: usize) -> Result<RawExpr, ReadStop>
+        ensures { Follows (spec.opened (spec.unary levels) (tokens_of self.old)) result (tokens_of self.new) }
     {
         if self.sees(TokenClass::Sign(Mark::Minus)) {
             let sign = self.expect(TokenClass::Sign(Mark::Minus))?;
@@ -69,8 +69,8 @@ impl<'a> Cursor<'a> {
     }
 
     #[cycle(expr)]
-    fn group(&mut self, alloc: Global, levels: usize) -> Result<RawExpr, Stop>
-        ensures { Reads (spec.group (spec.expr levels) (tokens_of self.old)) result (tokens_of self.new) }
+    fn group(&mut self, alloc: Global, levels: usize) -> Result<RawExpr, ReadStop>
+        ensures { Follows (spec.group (spec.expr levels) (tokens_of self.old)) result (tokens_of self.new) }
     {
         self.expect(TokenClass::Sign(Mark::OpenParen))?;
         let inner = self.ranked(alloc, levels, LOOSEST)?;
@@ -79,8 +79,8 @@ impl<'a> Cursor<'a> {
     }
 
     #[cycle(expr)]
-    fn pair(&mut self, alloc: Global, levels: usize) -> Result<RawExpr, Stop>
-        ensures { Reads (spec.pair (spec.expr levels) (tokens_of self.old)) result (tokens_of self.new) }
+    fn pair(&mut self, alloc: Global, levels: usize) -> Result<RawExpr, ReadStop>
+        ensures { Follows (spec.pair (spec.expr levels) (tokens_of self.old)) result (tokens_of self.new) }
     {
         let word = self.expect(TokenClass::Pair)?;
         self.expect(TokenClass::Sign(Mark::OpenParen))?;
@@ -95,8 +95,8 @@ impl<'a> Cursor<'a> {
     }
 
     #[cycle(expr)]
-    fn triple(&mut self, alloc: Global, levels: usize) -> Result<RawExpr, Stop>
-        ensures { Reads (spec.triple (spec.expr levels) (tokens_of self.old)) result (tokens_of self.new) }
+    fn triple(&mut self, alloc: Global, levels: usize) -> Result<RawExpr, ReadStop>
+        ensures { Follows (spec.triple (spec.expr levels) (tokens_of self.old)) result (tokens_of self.new) }
     {
         let word = self.expect(TokenClass::Triple)?;
         self.expect(TokenClass::Sign(Mark::OpenParen))?;
@@ -115,9 +115,9 @@ impl<'a> Cursor<'a> {
 
     /// The levels of operators up to the rank.
     #[cycle(expr)]
-    fn ranked(&mut self, alloc: Global, levels: usize, rank: u8) -> Result<RawExpr, Stop>
+    fn ranked(&mut self, alloc: Global, levels: usize, rank: u8) -> Result<RawExpr, ReadStop>
         requires { rank ≤ 5 }
-        ensures { Reads (spec.ranked tree.link tree.chain rank (spec.unary levels) (tokens_of self.old)) result (tokens_of self.new) }
+        ensures { Follows (spec.ranked tree.link tree.chain rank (spec.unary levels) (tokens_of self.old)) result (tokens_of self.new) }
     {
         if rank == 0 {
             self.unary(alloc, levels)
@@ -127,11 +127,11 @@ impl<'a> Cursor<'a> {
     }
 
     #[cycle(expr)]
-    fn chain(&mut self, alloc: Global, levels: usize, rank: u8) -> Result<RawExpr, Stop>
+    fn chain(&mut self, alloc: Global, levels: usize, rank: u8) -> Result<RawExpr, ReadStop>
         requires some { 0 < rank }
         requires known { rank ≤ 5 }
         ensures { let below = spec.ranked tree.link tree.chain (rank - 1) (spec.unary levels) in
-            Reads (spec.chained tree.link tree.chain rank below (tokens_of self.old)) result (tokens_of self.new) }
+            Follows (spec.chained tree.link tree.chain rank below (tokens_of self.old)) result (tokens_of self.new) }
     {
         let first = self.ranked(alloc, levels, rank - 1)?;
         let mut links = Items::new(alloc);
@@ -148,8 +148,8 @@ impl<'a> Cursor<'a> {
     }
 
     /// Reads an expression where so many parts may still be opened in one another.
-    pub fn expr(&mut self, alloc: Global, levels: usize) -> Result<RawExpr, Stop>
-        ensures { Reads (spec.expr levels (tokens_of self.old)) result (tokens_of self.new) }
+    pub fn expr(&mut self, alloc: Global, levels: usize) -> Result<RawExpr, ReadStop>
+        ensures { Follows (spec.expr levels (tokens_of self.old)) result (tokens_of self.new) }
     {
         self.ranked(alloc, levels, LOOSEST)
     }

@@ -1,16 +1,16 @@
-//! Reads indices of places and bounds of loops.
+//! Reads indices of places, bounds and steps of loops, and sides of branches.
 ghost use Rattle.std.specs.Prelude.{◌≡◌, ◌<◌, ◌≤◌, ◌-◌, ℕ, IfOk};
 ghost use Rattle.kernel_parser.specs.Trees as tree;
 ghost use Rattle.kernel_parser.specs.Parsing as spec;
-ghost use Rattle.kernel_parser.specs.Reading.{Reads, tokens_of};
+ghost use Rattle.kernel_parser.specs.Reading.{Follows, tokens_of};
 
 use crate::class::{TokenClass, number_of, op_of, span};
-use crate::cursor::{Cursor, Stop};
+use crate::cursor::{Cursor, ReadStop};
 use crate::raw::{RawIndex, RawIndexLink, RawIndexTree};
 use kernel_lexer::token::Mark;
 use sqlite_items::{Boxed, Items};
 use std::alloc::{AllocError, Global};
-use word_grammar::fault::Fault;
+use word_grammar::fault::GrammarFault;
 
 /// The rank of `+` and `-`, the operators that bind least in an index.
 const SUM: u8 = 2;
@@ -33,8 +33,8 @@ fn chained(
 }
 
 impl<'a> Cursor<'a> {
-    fn index_leaf(&mut self) -> Result<RawIndex, Stop>
-        ensures { Reads (spec.index_leaf (tokens_of self.old)) result (tokens_of self.new) }
+    fn index_leaf(&mut self) -> Result<RawIndex, ReadStop>
+        ensures { Follows (spec.index_leaf (tokens_of self.old)) result (tokens_of self.new) }
     {
         if self.sees(TokenClass::Number) {
             let token = self.expect(TokenClass::Number)?;
@@ -52,21 +52,21 @@ impl<'a> Cursor<'a> {
     }
 
     #[cycle(index)]
-    fn index_unary(&mut self, alloc: Global, levels: usize) -> Result<RawIndex, Stop>
-        ensures { Reads (spec.index_unary levels (tokens_of self.old)) result (tokens_of self.new) }
+    fn index_unary(&mut self, alloc: Global, levels: usize) -> Result<RawIndex, ReadStop>
+        ensures { Follows (spec.index_unary levels (tokens_of self.old)) result (tokens_of self.new) }
     {
         if !self.sees(TokenClass::IndexPart) {
             self.index_leaf()
         } else if levels == 0 {
-            Err(Stop::Fault(Fault::TooDeep))
+            Err(ReadStop::Fault(GrammarFault::TooDeep))
         } else {
             self.index_opened(alloc, levels - 1)
         }
     }
 
     #[cycle(index)]
-    fn index_opened(&mut self, alloc: Global, levels: usize) -> Result<RawIndex, Stop>
-        ensures { Reads (spec.index_opened (spec.index_unary levels) (tokens_of self.old)) result (tokens_of self.new) }
+    fn index_opened(&mut self, alloc: Global, levels: usize) -> Result<RawIndex, ReadStop>
+        ensures { Follows (spec.index_opened (spec.index_unary levels) (tokens_of self.old)) result (tokens_of self.new) }
     {
         if self.sees(TokenClass::Sign(Mark::Minus)) {
             let sign = self.expect(TokenClass::Sign(Mark::Minus))?;
@@ -88,9 +88,9 @@ impl<'a> Cursor<'a> {
 
     /// The levels of operators up to the rank.
     #[cycle(index)]
-    fn index_ranked(&mut self, alloc: Global, levels: usize, rank: u8) -> Result<RawIndex, Stop>
+    fn index_ranked(&mut self, alloc: Global, levels: usize, rank: u8) -> Result<RawIndex, ReadStop>
         requires { rank ≤ 5 }
-        ensures { Reads (spec.ranked tree.index_link tree.index_chain rank (spec.index_unary levels) (tokens_of self.old)) result (tokens_of self.new) }
+        ensures { Follows (spec.ranked tree.index_link tree.index_chain rank (spec.index_unary levels) (tokens_of self.old)) result (tokens_of self.new) }
     {
         if rank == 0 {
             self.index_unary(alloc, levels)
@@ -100,11 +100,11 @@ impl<'a> Cursor<'a> {
     }
 
     #[cycle(index)]
-    fn index_chain(&mut self, alloc: Global, levels: usize, rank: u8) -> Result<RawIndex, Stop>
+    fn index_chain(&mut self, alloc: Global, levels: usize, rank: u8) -> Result<RawIndex, ReadStop>
         requires some { 0 < rank }
         requires known { rank ≤ 5 }
         ensures { let below = spec.ranked tree.index_link tree.index_chain (rank - 1) (spec.index_unary levels) in
-            Reads (spec.chained tree.index_link tree.index_chain rank below (tokens_of self.old)) result (tokens_of self.new) }
+            Follows (spec.chained tree.index_link tree.index_chain rank below (tokens_of self.old)) result (tokens_of self.new) }
     {
         let first = self.index_ranked(alloc, levels, rank - 1)?;
         let mut links = Items::new(alloc);
@@ -120,8 +120,8 @@ impl<'a> Cursor<'a> {
     }
 
     /// Reads an index where so many parts may still be opened in one another.
-    pub fn index(&mut self, alloc: Global, levels: usize) -> Result<RawIndex, Stop>
-        ensures { Reads (spec.index levels (tokens_of self.old)) result (tokens_of self.new) }
+    pub fn index(&mut self, alloc: Global, levels: usize) -> Result<RawIndex, ReadStop>
+        ensures { Follows (spec.index levels (tokens_of self.old)) result (tokens_of self.new) }
     {
         self.index_ranked(alloc, levels, SUM)
     }

@@ -8,13 +8,13 @@
 //! - Faults 1 and 2 are those of the tokens, by the rules of `kernel_lexer`.
 //! - Fault 3, syntax: the text up to the token at fault, and that token, begin no kernel of the grammar, or the text ends too early. Its
 //!   place is that token, or the end of the text.
-//! - Fault 13, too deep: more than 32 loops, parentheses, calls and minus signs are opened in one another. Its place is the token that
-//!   opens the part too many.
+//! - Fault 13, too deep: more than 32 loops, branches, parentheses, calls and minus signs are opened in one another, and the text so far
+//!   begins a kernel of more levels. Its place is the token that opens the part too many.
 //! - Faults 4, 5, 6, 9 and 16 are those of the names, by the rules of `names`.
 //!
 //! `specs/KernelTexts.antt` says what a text stands for and what its first fault is.
 ghost use Rattle.std.specs.Prelude.{◌≡◌, ℕ, IfOk, IfErr};
-ghost use Rattle.kernel_parser.specs.KernelTexts.{Reads, EndMeans};
+ghost use Rattle.kernel_parser.specs.KernelTexts.{Reads, IsFaultOfText, EndMeans};
 
 use crate::names::resolve;
 use crate::parse_end::ParseEnd;
@@ -22,7 +22,10 @@ use crate::syntax::{SyntaxEnd, tree_of};
 use kernel_ast::Kernel;
 use kernel_lexer::{LexEnd, tokens};
 use std::alloc::Global;
-use word_grammar::fault::Fault;
+use word_grammar::fault::GrammarFault;
+
+/// The code of a text that is too long.
+const TOO_LONG: u8 = 15;
 
 /// The most bytes that the text of a kernel may have.
 pub const MAX_LENGTH: usize = 65_536;
@@ -51,8 +54,8 @@ impl From<SyntaxEnd> for ParseEnd {
         match end {
             SyntaxEnd::Fault { fault, at } => {
                 let code = match fault {
-                    Fault::Syntax => 3,
-                    Fault::TooDeep => 13,
+                    GrammarFault::Syntax => 3,
+                    GrammarFault::TooDeep => 13,
                 };
                 ParseEnd::Fault { code, at }
             }
@@ -69,11 +72,21 @@ impl From<SyntaxEnd> for ParseEnd {
 /// module. [`ParseEnd::NoMemory`] where memory was wanted and not found.
 pub fn parse(alloc: Global, text: &[u8]) -> Result<Kernel, ParseEnd>
     ensures reads { IfOk result (λ kernel. Reads text.now kernel) }
+    ensures faultless { IfOk result (λ _. (code at : ℕ) → IsFaultOfText text.now code at → ⊥) }
+    ensures fault { IfErr result (EndMeans text.now) }
+{
+    let kernel = kernel_of_text(alloc, text)?;
+    Ok(kernel)
+}
+
+// The kernel that a text stands for, or its first fault.
+fn kernel_of_text(alloc: Global, text: &[u8]) -> Result<Kernel, ParseEnd>
+    ensures reads { IfOk result (λ kernel. Reads text.now kernel) }
     ensures fault { IfErr result (EndMeans text.now) }
 {
     if text.len() > MAX_LENGTH {
         return Err(ParseEnd::Fault {
-            code: 15,
+            code: TOO_LONG,
             at: MAX_LENGTH as u32,
         });
     }

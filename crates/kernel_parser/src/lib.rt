@@ -3,12 +3,12 @@
 //! its names their meaning.
 //!
 //! The grammar is `specs/Grammar.antt`, rule by rule, as relations of words; `specs/Trees.antt` says what is made of each rule, and
-//! `specs/Tokens.antt` which tokens a rule asks for. `syntax::tree_of` answers the only reading, or the first fault with its place.
-//! Names stand in that tree as stretches of the text. `names::resolve` answers the kernel that they make, or the first fault of a name
+//! `specs/Tokens.antt` which tokens a rule asks for. `tree_of` answers the only reading, or the first fault with its place.
+//! Names stand in that tree as stretches of the text. `resolve` answers the kernel that they make, or the first fault of a name
 //! with its place; `specs/Names.antt` lists these faults as they are read, and `specs/Resolved.antt` is the kernel's tree.
 //!
 //! Inside, each rule has a reader, a function from tokens (`specs/Parsing.antt`), and a method of `Cursor` that answers as the reader
-//! does (`Reads`). `proofs/*Steps.antt` show that the readers are exact, rule by rule, from the laws of `word_grammar`.
+//! does (`Follows`). `proofs/*Steps.antt` show that the readers are exact, rule by rule, from the laws of `word_grammar`.
 #![tactic(auto)]
 
 mod class;
@@ -17,20 +17,14 @@ mod expr;
 mod index;
 pub mod kernel_text;
 pub mod laws;
-pub mod names;
+mod names;
 pub mod parse_end;
 mod place;
-pub mod raw;
+mod raw;
 mod stmt;
-pub mod syntax;
+mod syntax;
 #[cfg(test)]
 mod tests;
 
 pub use kernel_text::{MAX_LENGTH, parse};
-pub use names::resolve;
 pub use parse_end::ParseEnd;
-pub use raw::{
-    RawDecl, RawExpr, RawIndex, RawIndexLink, RawIndexTree, RawKernel, RawLink, RawLoop, RawPlace,
-    RawSize, RawStmt, Span,
-};
-pub use syntax::{MAX_LEVELS, SyntaxEnd, tree_of};

@@ -3,7 +3,7 @@
 //! The rules, which are this project's convention:
 //!
 //! - A declared name is known from its declaration on. The name of a loop is known in the loop's body, and is called an open index
-//!   there; it is not known in the loop's own bounds. Two loops that do not contain each other may use the same name. The kernel's own
+//!   there; it is not known in the loop's own bounds and step. Two loops that do not contain each other may use the same name. The kernel's own
 //!   name is in no table.
 //! - In an index only open indices are known. In an expression an open index without brackets is its value.
 //! - Fault 16, a bad size: a size is 0 or above 64. Its place is the number.
@@ -12,7 +12,7 @@
 //! - Fault 9, not writable: the target of an assignment is an input or an open index. Its place is the name.
 //! - Fault 6, indices: a place has another number of brackets than its declaration has sizes, or an open index in an expression has
 //!   brackets. Its place is the name.
-//! - The first fault, as they are read, is the one that is answered; at one name 4 stands before 9, and 9 before 6.
+//! - The fault with the least place is answered; at one name 4 stands before 9, and 9 before 6. It is the first one as they are read.
 //!
 //! `specs/Names.antt` says what the faults are, and `specs/Resolved.antt` what the tree of a kernel without faults is.
 ghost use Rattle.std.specs.Prelude.{◌≡◌, [], OnOk, IfOk, IfErr};
@@ -45,7 +45,7 @@ use std::alloc::Global;
 ///
 /// [`ParseEnd::Fault`] with the code and the place of the first fault of its names, exactly where there is one, by the rules at the
 /// head of this module. [`ParseEnd::NoMemory`] where memory was wanted and not found.
-pub fn resolve(alloc: Global, text: &[u8], raw: &RawKernel) -> Result<Kernel, ParseEnd>
+pub(crate) fn resolve(alloc: Global, text: &[u8], raw: &RawKernel) -> Result<Kernel, ParseEnd>
     requires { Fits text.now raw.now }
     ensures faultless { OnOk result (name_faults text.now raw.now ≡ []) }
     ensures tree { IfOk result (λ kernel. kernel ≡ tree_of text.now raw.now) }

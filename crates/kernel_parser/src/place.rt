@@ -2,21 +2,21 @@
 ghost use Rattle.std.specs.Prelude.{◌≡◌};
 ghost use Rattle.kernel_parser.specs.Trees as tree;
 ghost use Rattle.kernel_parser.specs.Parsing as spec;
-ghost use Rattle.kernel_parser.specs.Reading.{Reads, tokens_of};
+ghost use Rattle.kernel_parser.specs.Reading.{Follows, tokens_of};
 
 use crate::class::{TokenClass, number_of, span};
-use crate::cursor::{Cursor, Stop};
+use crate::cursor::{Cursor, ReadStop};
 use crate::raw::{RawIndex, RawPlace, RawSize};
 use kernel_lexer::token::Mark;
 use sqlite_items::Items;
 use std::alloc::Global;
-use word_grammar::fault::Fault;
+use word_grammar::fault::GrammarFault;
 
 const OPEN: TokenClass = TokenClass::Sign(Mark::OpenBracket);
 
 impl<'a> Cursor<'a> {
-    fn bracketed_index(&mut self, alloc: Global, levels: usize) -> Result<RawIndex, Stop>
-        ensures { Reads (spec.bracket tree.inside (spec.index levels) (tokens_of self.old)) result (tokens_of self.new) }
+    fn bracketed_index(&mut self, alloc: Global, levels: usize) -> Result<RawIndex, ReadStop>
+        ensures { Follows (spec.bracket tree.inside (spec.index levels) (tokens_of self.old)) result (tokens_of self.new) }
     {
         self.expect(OPEN)?;
         let index = self.index(alloc, levels)?;
@@ -24,8 +24,8 @@ impl<'a> Cursor<'a> {
         Ok(index)
     }
 
-    fn indices(&mut self, alloc: Global, levels: usize) -> Result<Items<RawIndex>, Stop>
-        ensures { Reads (spec.brackets (spec.bracket tree.inside (spec.index levels)) (tokens_of self.old)) result (tokens_of self.new) }
+    fn indices(&mut self, alloc: Global, levels: usize) -> Result<Items<RawIndex>, ReadStop>
+        ensures { Follows (spec.brackets (spec.bracket tree.inside (spec.index levels)) (tokens_of self.old)) result (tokens_of self.new) }
     {
         let mut found = Items::new(alloc);
         if self.sees(OPEN) {
@@ -35,7 +35,7 @@ impl<'a> Cursor<'a> {
                 let second = self.bracketed_index(alloc, levels)?;
                 found.push(second)?;
                 if self.sees(OPEN) {
-                    return Err(Stop::Fault(Fault::Syntax));
+                    return Err(ReadStop::Fault(GrammarFault::Syntax));
                 }
             }
         }
@@ -43,8 +43,8 @@ impl<'a> Cursor<'a> {
     }
 
     /// Reads a name with at most two indices.
-    pub fn place_of(&mut self, alloc: Global, levels: usize) -> Result<RawPlace, Stop>
-        ensures { Reads (spec.place levels (tokens_of self.old)) result (tokens_of self.new) }
+    pub fn place_of(&mut self, alloc: Global, levels: usize) -> Result<RawPlace, ReadStop>
+        ensures { Follows (spec.place levels (tokens_of self.old)) result (tokens_of self.new) }
     {
         let name = self.expect(TokenClass::Name)?;
         let indices = self.indices(alloc, levels)?;
@@ -54,8 +54,8 @@ impl<'a> Cursor<'a> {
         })
     }
 
-    fn bracketed_size(&mut self) -> Result<RawSize, Stop>
-        ensures { Reads (spec.size (tokens_of self.old)) result (tokens_of self.new) }
+    fn bracketed_size(&mut self) -> Result<RawSize, ReadStop>
+        ensures { Follows (spec.size (tokens_of self.old)) result (tokens_of self.new) }
     {
         self.expect(OPEN)?;
         let number = self.expect(TokenClass::Number)?;
@@ -67,8 +67,8 @@ impl<'a> Cursor<'a> {
     }
 
     /// Reads at most two sizes.
-    pub fn sizes(&mut self, alloc: Global) -> Result<Items<RawSize>, Stop>
-        ensures { Reads (spec.brackets spec.size (tokens_of self.old)) result (tokens_of self.new) }
+    pub fn sizes(&mut self, alloc: Global) -> Result<Items<RawSize>, ReadStop>
+        ensures { Follows (spec.brackets spec.size (tokens_of self.old)) result (tokens_of self.new) }
     {
         let mut found = Items::new(alloc);
         if self.sees(OPEN) {
@@ -78,7 +78,7 @@ impl<'a> Cursor<'a> {
                 let second = self.bracketed_size()?;
                 found.push(second)?;
                 if self.sees(OPEN) {
-                    return Err(Stop::Fault(Fault::Syntax));
+                    return Err(ReadStop::Fault(GrammarFault::Syntax));
                 }
             }
         }

@@ -1,10 +1,10 @@
 //! The tree of a kernel as it is written: names stand as stretches of the text.
 //!
-//! `at` is a place in the text, in bytes from 0: the first token's for an index and a loop, the sign's for a minus and a link, and the
-//! function word's for a call. Parentheses give no part of their own. A chain is read from the left. As the grammar makes it, a chain has
-//! at least one link, its operators are of one level, and a place has at most two indices; the types do not hold this.
+//! `at` is a place in the text, in bytes from 0: the first token's for an index, a loop and a branch, the sign's for a minus and a link,
+//! and the function word's for a call. Parentheses give no part of their own. A chain is read from the left. As the grammar makes it, a
+//! chain has at least one link, its operators are of one level, and a place has at most two indices; the types do not hold this.
 use comp_graph::operation::Op;
-use kernel_ast::tree::DeclKind;
+use kernel_ast::tree::{DeclKind, Relation};
 use sqlite_items::{Boxed, Items};
 
 /// A stretch of the text, the bytes `from..to`.
@@ -29,7 +29,7 @@ pub struct RawDecl {
     pub sizes: Items<RawSize>,
 }
 
-/// The tree of an index, or of a bound of a loop.
+/// The tree of an index.
 #[cycle(index)]
 #[derive(Drop)]
 pub enum RawIndexTree {
@@ -47,7 +47,7 @@ pub struct RawIndexLink {
     pub value: RawIndexTree,
 }
 
-/// An index of a place, or a bound of a loop.
+/// An index of a place, a bound or the step of a loop, or a side of a branch.
 #[derive(Drop)]
 pub struct RawIndex {
     pub at: u32,
@@ -81,11 +81,12 @@ pub struct RawLink {
     pub at: u32,
 }
 
-/// A statement: an assignment, or a loop from its first bound to the second.
+/// A statement: an assignment, a loop, or a branch, whose second body is empty where none is written.
 #[derive(Drop)]
 pub enum RawStmt {
     Assign(RawPlace, RawExpr),
     Loop(RawLoop, Items<RawStmt>),
+    Branch(RawBranch, Items<RawStmt>, Items<RawStmt>),
 }
 
 /// What stands before a loop's body, and the place of its first token.
@@ -94,6 +95,16 @@ pub struct RawLoop {
     pub name: Span,
     pub from: RawIndex,
     pub to: RawIndex,
+    pub by: Option<RawIndex>,
+    pub at: u32,
+}
+
+/// What stands before a branch's bodies, and the place of its first token.
+#[derive(Drop)]
+pub struct RawBranch {
+    pub left: RawIndex,
+    pub rel: Relation,
+    pub right: RawIndex,
     pub at: u32,
 }
 

@@ -6,7 +6,7 @@ use crate::syntax::{SyntaxEnd, tree_of};
 use kernel_lexer::token::{Keyword, Mark, Token, TokenKind};
 use std::alloc::{AllocError, Global};
 use std::test::Fail;
-use word_grammar::fault::Fault;
+use word_grammar::fault::GrammarFault;
 
 /// The token k of a text stands at the place k.
 fn place_in_turn(alloc: Global, kinds: &[TokenKind]) -> Result<Vec<Token>, AllocError> {
@@ -61,7 +61,7 @@ fn deepest(rt: HostRuntime) -> Result<(), Fail> {
     let tokens = place_in_turn(alloc, deeper.as_slice())?;
     match tree_of(alloc, tokens.as_slice(), 200) {
         Err(SyntaxEnd::Fault { fault, at }) => {
-            assert!(rt; fault == Fault::TooDeep);
+            assert!(rt; fault == GrammarFault::TooDeep);
             assert_eq!(rt; at, 37);
         }
         _ => assert!(rt; false),
@@ -179,5 +179,46 @@ fn texts(rt: HostRuntime) -> Result<(), Fail> {
         parse(alloc, b"kernel k { in a; a = b; c }").err()
             == Some(ParseEnd::Fault { code: 3, at: 26 })
     );
+    Ok(())
+}
+
+// Places are counted by hand.
+const FAULTS: [(&[u8], u8, u32); 7] = [
+    (b"kernel b { in x; out y; y = x; if x < 1 { } }", 4, 34),
+    (b"kernel k { else { } }", 3, 11),
+    (b"kernel k { out y; y = 1; else { } }", 3, 25),
+    (b"kernel k { for i in 0..1 { } else { } }", 3, 29),
+    (b"kernel k { for i in 0..1 by 1 by 1 { } }", 3, 30),
+    (b"kernel k { if 1 { } }", 3, 16),
+    (b"kernel k { if 1 = 1 { } }", 3, 16),
+];
+
+#[test]
+fn branches_and_steps(rt: HostRuntime) -> Result<(), Fail> {
+    let alloc = rt.alloc();
+    let text =
+        b"kernel k { in a[4]; out b; b = 0; for i in 0..4 by 2 { if i>=2 { b = a[i]; } else { if i != 0 { } } } }";
+    match parse(alloc, text) {
+        Ok(kernel) => assert_eq!(rt; kernel.body().len(), 2),
+        Err(_) => assert!(rt; false),
+    }
+    for (text, code, at) in FAULTS {
+        assert!(rt; parse(alloc, text).err() == Some(ParseEnd::Fault { code, at }));
+    }
+    Ok(())
+}
+
+// The 33rd branch stands behind 11 bytes and 32 branches of 7.
+#[test]
+fn too_many_branches(rt: HostRuntime) -> Result<(), Fail> {
+    let alloc = rt.alloc();
+    let mut text = b"kernel k { ".to_vec(alloc)?;
+    for _ in 0..33 {
+        for byte in b"if 1<1{" {
+            text.push(*byte)?;
+        }
+    }
+    let answer = parse(alloc, text.as_slice());
+    assert!(rt; answer.err() == Some(ParseEnd::Fault { code: 13, at: 235 }));
     Ok(())
 }

@@ -1,3 +1,4 @@
+-- What the contracts of this crate, and of those above it, speak of.
 pub mod CellsAt
 pub mod ElementLoops
 pub mod LightStatements

@@ -5,7 +5,9 @@
 //! the crates above, say what an outcome of the meaning is to a call that may want memory.
 #![tactic(auto)]
 
+pub mod counting;
 pub mod index;
+pub mod numbers;
 pub mod place;
 pub mod stop;
 #[cfg(test)]
@@ -13,7 +15,9 @@ mod tests;
 pub mod walking;
 pub mod written;
 
-pub use index::{bounds, turn};
+pub use counting::count;
+pub use index::{condition, loop_numbers, turn};
+pub use numbers::LoopNumbers;
 pub use place::{element_count, locate};
 pub use stop::Stop;
 pub use walking::walk;

@@ -7,7 +7,7 @@ ghost use Rattle.kernel_ast.specs.WellFormed.{is_size};
 ghost use Rattle.kernel_walk.specs.CellsAt.{cell_at};
 
 use crate::index::index_value;
-use kernel_ast::{Cell, Fault, Kernel, Place};
+use kernel_ast::{Cell, Fault, Kernel, Place, RunRule};
 
 /// An index value as a number, where it is from 0 to its size less 1.
 fn within(i: i64, size: u16) -> Option<u16>
@@ -76,10 +76,7 @@ fn cell_at(kernel: &Kernel, place: &Place, indices: &[i64]) -> Result<Cell, Faul
             decl: place.decl,
             offset,
         }),
-        None => Err(Fault {
-            code: 7,
-            at: place.at,
-        }),
+        None => Err(RunRule::OutOfRange.at(place.at)),
     }
 }
 

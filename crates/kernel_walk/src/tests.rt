@@ -3,14 +3,16 @@ ghost use Rattle.std.specs.Prelude.{◌≡◌, ◌^◌, [], ◌∷◌, true, pos
 ghost use Rattle.kernel_ast.specs.WellFormed.{stmt_fits};
 ghost use Rattle.kernel_ast.specs.KernelParts.{Declared};
 
-use crate::index::bounds;
+use crate::index::{condition, loop_numbers};
 use crate::place::locate;
 use crate::stop::Stop;
 use crate::walking::walk;
 use crate::written::Written;
 use comp_graph::Label;
 use indexmap::IndexMap;
-use kernel_ast::{Cell, Decl, DeclKind, Fault, Index, IndexTree, Kernel, Name, Place, Stmt};
+use kernel_ast::{
+    Cell, Decl, DeclKind, Fault, Index, IndexTree, Kernel, Name, Place, Relation, Stmt,
+};
 use sqlite_items::Items;
 use std::alloc::{AllocError, Global};
 use std::test::Fail;
@@ -29,6 +31,7 @@ fn repeat(alloc: Global, n: u32) -> Result<Stmt, AllocError>
             at: 39,
             tree: IndexTree::Number(n as i64),
         },
+        by: None,
         body: Items::new(alloc),
         at: 25,
     })
@@ -124,8 +127,56 @@ fn places(rt: HostRuntime) -> Result<(), Fail> {
         };
         assert_eq!(rt; locate(&kernel, &indices, &place), expected);
     }
-    let bounds = bounds(&[4, 7], &turn_index(0), &turn_index(1));
-    assert_eq!(rt; bounds, Ok((4, 7)));
+    Ok(())
+}
+
+// 3 as an index
+fn three() -> Index {
+    Index {
+        at: 52,
+        tree: IndexTree::Number(3),
+    }
+}
+
+#[test]
+fn numbers(rt: HostRuntime) -> Result<(), Fail> {
+    let from = turn_index(0);
+    let to = turn_index(1);
+    for (indices, step, expected) in [
+        ([4, 7], None, [Some(4), Some(5), Some(6), None]),
+        ([4, 8], Some(three()), [Some(4), Some(7), None, None]),
+        ([7, 7], Some(three()), [None, None, None, None]),
+    ] {
+        let mut numbers = loop_numbers(&indices, &from, &to, &step)?;
+        for number in expected {
+            assert_eq!(rt; numbers.next(), number);
+        }
+    }
+    let step = Some(turn_index(0));
+    match loop_numbers(&[0, 7], &from, &to, &step) {
+        Ok(_) => assert!(rt; false),
+        Err(fault) => assert_eq!(rt; fault, Fault { code: 17, at: 50 }),
+    }
+    Ok(())
+}
+
+const RELATIONS: [(Relation, [bool; 3]); 6] = [
+    (Relation::Equal, [false, true, false]),
+    (Relation::NotEqual, [true, false, true]),
+    (Relation::Less, [true, false, false]),
+    (Relation::AtMost, [true, true, false]),
+    (Relation::More, [false, false, true]),
+    (Relation::AtLeast, [false, true, true]),
+];
+
+#[test]
+fn conditions(rt: HostRuntime) -> Result<(), Fail> {
+    for (relation, expected) in RELATIONS {
+        for (left, holds) in [2, 3, 4].iter().zip(expected) {
+            let found = condition(&[*left], &turn_index(0), relation, &three());
+            assert_eq!(rt; found, Ok(holds));
+        }
+    }
     Ok(())
 }
 

@@ -1,7 +1,7 @@
 //! The walk: the statements are executed without values.
 ghost use Rattle.std.specs.Prelude.{◌≡◌, ◌≤◌, [], ◌∷◌, ◌++◌, map, OnOk, true};
 ghost use Rattle.std.specs.List.{list_all};
-ghost use Rattle.kernel_ast.specs.Steps.{each, in_turn, numbers};
+ghost use Rattle.kernel_ast.specs.Steps.{each, in_turn};
 ghost use Rattle.kernel_ast.specs.Walk as spec;
 ghost use Rattle.kernel_ast.specs.Meaning.{fault_of};
 ghost use Rattle.kernel_ast.specs.Weights as weights;
@@ -9,14 +9,13 @@ ghost use Rattle.kernel_walk.specs.LightStatements.{is_light};
 ghost use Rattle.kernel_walk.specs.Outcomes.{Gives, Answers, Finds};
 ghost use Rattle.kernel_walk.specs.PlacesLookedAt.{all_located, places_of_link};
 
-use crate::index::bounds;
+use crate::counting::count;
+use crate::index::{condition, loop_numbers};
+use crate::numbers::LoopNumbers;
 use crate::place::locate;
 use crate::stop::Stop;
 use kernel_ast::{Expr, Fault, Kernel, Link, Place, Stmt, weight};
 use std::alloc::Global;
-
-/// The most turns that a kernel's run may count.
-const MAX_TURNS: u32 = 65_536;
 
 /// Looks at the places of an expression, from left to right.
 #[cycle(places)]
@@ -78,11 +77,7 @@ impl Progress {
         ensures counted { Gives (spec.count at more self.old.turns) self.new.turns result }
         ensures same { self.new.indices ≡ self.old.indices }
     {
-        let counted = self.turns.saturating_add(more);
-        if counted > MAX_TURNS {
-            return Err(Stop::Fault(Fault { code: 12, at }));
-        }
-        self.turns = counted;
+        self.turns = count(at, more, self.turns)?;
         Ok(())
     }
 
@@ -97,7 +92,7 @@ impl Progress {
     }
 
     #[cycle(statements)]
-    #[tactic(auto, using(crate::proofs::LightBodies::is_light_loop))]
+    #[tactic(auto, using(crate::proofs::LightBodies::is_light_loop, crate::proofs::LightBodies::is_light_branch))]
     fn statement(&mut self, kernel: &Kernel, stmt: &Stmt) -> Result<(), Stop>
         requires light { is_light stmt.now ≡ true }
         ensures walked { Gives (spec.walk kernel.now.decls stmt.now self.old.indices.items self.old.turns) self.new.turns result }
@@ -108,10 +103,31 @@ impl Progress {
                 self.count(*at, weight(stmt))?;
                 self.look_at_assignment(kernel, target, value)
             }
-            Stmt::Loop { from, to, body, at } => {
+            Stmt::Loop {
+                from,
+                to,
+                by,
+                body,
+                at,
+            } => {
                 self.count(*at, weight(stmt))?;
-                let (from, to) = bounds(self.indices.as_slice(), from, to)?;
-                self.turns(kernel, body.as_slice(), *at, from, to)
+                let numbers = loop_numbers(self.indices.as_slice(), from, to, by)?;
+                self.turns(kernel, body.as_slice(), *at, numbers)
+            }
+            Stmt::Branch {
+                left,
+                rel,
+                right,
+                taken,
+                other,
+                at,
+            } => {
+                self.count(*at, weight(stmt))?;
+                if condition(self.indices.as_slice(), left, *rel, right)? {
+                    self.statements(kernel, taken.as_slice())
+                } else {
+                    self.statements(kernel, other.as_slice())
+                }
             }
         }
     }
@@ -123,14 +139,13 @@ impl Progress {
         kernel: &Kernel,
         body: &[Stmt],
         at: u32,
-        from: i64,
-        to: i64,
+        numbers: LoopNumbers,
     ) -> Result<(), Stop>
         requires light { list_all is_light body.now ≡ true }
-        ensures walked { Gives (each (spec.one_turn (map (spec.walk kernel.now.decls) body.now) at self.old.indices.items) (numbers from to) self.old.turns) self.new.turns result }
+        ensures walked { Gives (each (spec.one_turn (map (spec.walk kernel.now.decls) body.now) at self.old.indices.items) numbers self.old.turns) self.new.turns result }
         ensures same { OnOk result (self.new.indices.items ≡ self.old.indices.items) }
     {
-        'each_turn: for i in from..to {
+        'each_turn: for i in numbers {
             self.one_turn(kernel, body, at, i)?;
         }
         Ok(())
@@ -176,13 +191,14 @@ fn turns_of(alloc: Global, kernel: &Kernel) -> Result<u32, Stop>
 }
 
 /// Walks through a kernel: executes its statements without values. On reaching a statement its weight is counted as turns, and 1 at the
-/// beginning of each turn of a loop. For a loop both bounds are evaluated then. For an assignment the places of the right side are looked
-/// at from left to right, and last the target.
+/// beginning of each turn of a loop. For a loop the bounds and the step are evaluated then, and the step is tested. For a branch both sides
+/// are evaluated then. For an assignment the places of the right side are looked at from left to right, and last the target.
 ///
 /// # Errors
 ///
 /// [`Stop::Fault`] with the first fault of the walk, exactly where it has one: 12 at the statement, or at the `for` of a loop's turn, where
-/// the turns counted so far and those to be counted now are above 65,536; 14 and 7 where [`bounds`] and [`locate`] have them.
+/// the turns counted so far and those to be counted now are above 65,536; 14, 17 and 7 where [`loop_numbers`], [`condition`] and [`locate`]
+/// have them.
 /// [`Stop::NoMemory`] where memory was wanted and not found.
 pub fn walk(alloc: Global, kernel: &Kernel) -> Result<(), Stop>
     ensures { Finds (fault_of (spec.walk_all kernel.now.decls kernel.now.body)) result }

@@ -1,19 +1,19 @@
 -- To go through the executed assignments is to execute the statements.
 use Rattle.std.proofs.lemmas.Bool.{and_parts}
-use Rattle.std.proofs.Common.{suc, nat_lt, nat_le, ◌≡◌, ◌++◌, ℕ, ℤ, List, [], ◌∷◌, map, refl, sym, ap, ◌∙◌, subst, Result, Ok, Err, Bool, true, ◌&&◌}
+use Rattle.std.proofs.Common.{suc, nat_lt, nat_le, ◌≡◌, ◌++◌, ℕ, ℤ, List, [], ◌∷◌, map, refl, sym, ap, ◌∙◌, subst, Result, Ok, Err, Bool, true, false, ◌&&◌, if◌then◌else◌}
 use Rattle.kernel_ast.specs.declared.tree.Expr.{Expr}
 use Rattle.kernel_ast.specs.declared.tree.Stmt.{Stmt, roll-Stmt}
-use Rattle.kernel_ast.specs.declared.tree.Stmt.TheOpen.{Stmt-F, Assign, Loop}
+use Rattle.kernel_ast.specs.declared.tree.Stmt.TheOpen.{Stmt-F, Assign, Loop, Branch}
 use Rattle.kernel_ast.specs.declared.tree.Stmt.TheFolds.{fold-roll-Stmt, ind-Stmt, map-Stmt}
 use Rattle.kernel_ast.specs.declared.tree.Place.{Place}
 use Rattle.kernel_ast.specs.KernelParts.{Declared}
 use Rattle.kernel_ast.specs.declared.element.Fault.{Fault}
 use Rattle.kernel_ast.specs.declared.element.Cell.{Cell}
-use Rattle.kernel_ast.specs.Steps.{and_then, in_turn, each, numbers}
-use Rattle.kernel_ast.specs.Places.{located, bounds}
+use Rattle.kernel_ast.specs.Steps.{and_then, in_turn, each}
+use Rattle.kernel_ast.specs.Places.{located, loop_numbers, condition}
 use Rattle.kernel_ast.specs.Walk.{all_at, count}
-use Rattle.kernel_ast.specs.Weights.{assign_weight, loop_weight}
-use Rattle.kernel_ast.specs.WellFormed.{expr_fits, stmt_fits_step, stmt_fits, body_fits, target_fits, index_fits}
+use Rattle.kernel_ast.specs.Weights.{assign_weight, loop_weight, branch_weight}
+use Rattle.kernel_ast.specs.WellFormed.{expr_fits, stmt_fits_step, stmt_fits, body_fits, target_fits, index_fits, step_fits}
 use Rattle.kernel_ast.specs.WellFormed as well
 use Rattle.kernel_ast.specs.Machine.{Machine, Elements, State, Execution, evaluate, assign, one_pass, stmt_step, execute, execute_all, put}
 use Rattle.loop_unroll.specs.declared.flat.Item.{Item}
@@ -124,6 +124,12 @@ module _ {K S : Type 0} (M : Machine K S) (decls : List Declared) where
       let fits = and_parts (stmt_fits decls e.0 loops) (well.all_at loops (map (stmt_fits decls) (some_stmts body))) h in
       acts_then (unrolled decls e.0 indices) _ (execute M decls e.0 indices) _ (e.1 loops fits.0 indices) (body_acts body loops fits.1 indices)
 
+  branch_acts : (holds : Bool) (taken other : List SomeStmt) (loops : ℕ) → well.all_at loops (map (stmt_fits decls) (some_stmts taken)) ≡ true → well.all_at loops (map (stmt_fits decls) (some_stmts other)) ≡ true
+      → (indices : List ℤ) → Acts (in_turn (all_at (if holds then map (unrolled decls) (some_stmts taken) else map (unrolled decls) (some_stmts other)) indices))
+      (in_turn (all_at (if holds then map (execute M decls) (some_stmts taken) else map (execute M decls) (some_stmts other)) indices))
+  branch_acts true taken other loops h k indices = body_acts taken loops h indices
+  branch_acts false taken other loops h k indices = body_acts other loops k indices
+
   turn_acts : (body : List SomeStmt) (loops : ℕ) → well.all_at loops (map (stmt_fits decls) (some_stmts body)) ≡ true → (at : ℕ) (indices : List ℤ) (i : ℤ)
       → Acts (one_turn (map (unrolled decls) (some_stmts body)) at indices i) (one_pass (map (execute M decls) (some_stmts body)) indices i)
   unfolding one_turn one_pass
@@ -135,15 +141,28 @@ module _ {K S : Type 0} (M : Machine K S) (decls : List Declared) where
       let one = and_parts (target_fits decls loops target) (expr_fits decls loops value && nat_le (assign_weight target value) 65536) h in
       let more = and_parts (expr_fits decls loops value) (nat_le (assign_weight target value) 65536) one.1 in
       acts_then (counting at (assign_weight target value)) _ (λ s. Ok s) _ (acts_count at (assign_weight target value)) (acts_add target value loops indices more.0))
-  parts (Loop from to body at) =
-      opened (Loop from to (some_stmts body) at) (λ loops h indices.
+  parts (Loop from to by body at) =
+      opened (Loop from to by (some_stmts body) at) (λ loops h indices.
       let fits : Bool = well.all_at (suc loops) (map (stmt_fits decls) (some_stmts body)) in
-      let one = and_parts (nat_lt loops 32) (index_fits loops from && (index_fits loops to && (nat_le (loop_weight from to) 65536 && fits))) h in
-      let two = and_parts (index_fits loops from) (index_fits loops to && (nat_le (loop_weight from to) 65536 && fits)) one.1 in
-      let three = and_parts (index_fits loops to) (nat_le (loop_weight from to) 65536 && fits) two.1 in
-      let four = and_parts (nat_le (loop_weight from to) 65536) fits three.1 in
-      acts_then (counting at (loop_weight from to)) _ (λ s. Ok s) _ (acts_count at (loop_weight from to))
-      (acts_after (bounds indices from to) _ _ (λ b. acts_each _ _ (turn_acts body (suc loops) four.1 at indices) (numbers b.0 b.1))))
+      let light : Bool = nat_le (loop_weight from to by) 65536 in
+      let one = and_parts (nat_lt loops 32) (index_fits loops from && (index_fits loops to && (step_fits loops by && (light && fits)))) h in
+      let two = and_parts (index_fits loops from) (index_fits loops to && (step_fits loops by && (light && fits))) one.1 in
+      let three = and_parts (index_fits loops to) (step_fits loops by && (light && fits)) two.1 in
+      let four = and_parts (step_fits loops by) (light && fits) three.1 in
+      let five = and_parts light fits four.1 in
+      acts_then (counting at (loop_weight from to by)) _ (λ s. Ok s) _ (acts_count at (loop_weight from to by))
+      (acts_after (loop_numbers indices from to by) _ _ (λ ns. acts_each _ _ (turn_acts body (suc loops) five.1 at indices) ns)))
+  parts (Branch left rel right taken other at) =
+      opened (Branch left rel right (some_stmts taken) (some_stmts other) at) (λ loops h indices.
+      let first : Bool = well.all_at loops (map (stmt_fits decls) (some_stmts taken)) in
+      let second : Bool = well.all_at loops (map (stmt_fits decls) (some_stmts other)) in
+      let light : Bool = nat_le (branch_weight left right) 65536 in
+      let one = and_parts (index_fits loops left) (index_fits loops right && (light && (first && second))) h in
+      let two = and_parts (index_fits loops right) (light && (first && second)) one.1 in
+      let three = and_parts light (first && second) two.1 in
+      let four = and_parts first second three.1 in
+      acts_then (counting at (branch_weight left right)) _ (λ s. Ok s) _ (acts_count at (branch_weight left right))
+      (acts_after (condition indices left rel right) _ _ (λ holds. branch_acts holds taken other loops four.0 four.1 indices)))
 
   stmt_acts : (s : Stmt) → IsPlayed s
   stmt_acts = ind-Stmt IsPlayed (λ x y is. subst (λ z. IsPlayed (roll-Stmt z)) is (parts y))

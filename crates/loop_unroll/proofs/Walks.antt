@@ -7,17 +7,17 @@ use Rattle.kernel_ast.specs.declared.tree.Expr.TheOpen as expr
 use Rattle.kernel_ast.specs.declared.tree.Expr.TheFolds.{fold-Link, fold-roll-Expr, fold-roll-Link, ind-Expr, map-Expr, map-Link}
 use Rattle.kernel_ast.specs.declared.tree.Link.{Link, roll-Link}
 use Rattle.kernel_ast.specs.declared.tree.Stmt.{Stmt, roll-Stmt}
-use Rattle.kernel_ast.specs.declared.tree.Stmt.TheOpen.{Stmt-F, Assign, Loop}
+use Rattle.kernel_ast.specs.declared.tree.Stmt.TheOpen.{Stmt-F, Assign, Loop, Branch}
 use Rattle.kernel_ast.specs.declared.tree.Stmt.TheFolds.{fold-roll-Stmt, ind-Stmt, map-Stmt}
 use Rattle.kernel_ast.specs.declared.tree.Place.{Place}
 use Rattle.kernel_ast.specs.KernelParts.{Declared}
 use Rattle.kernel_ast.specs.declared.element.Fault.{Fault}
 use Rattle.kernel_ast.specs.declared.element.Cell.{Cell}
-use Rattle.kernel_ast.specs.Steps.{and_then, in_turn, each, numbers}
-use Rattle.kernel_ast.specs.Places.{fault, located, bounds}
+use Rattle.kernel_ast.specs.Steps.{and_then, in_turn, each}
+use Rattle.kernel_ast.specs.Places.{fault, located, loop_numbers, condition}
 use Rattle.kernel_ast.specs.Walk as walks
 use Rattle.kernel_ast.specs.Walk.{Walk, walk, walk_all, walk_step, count, all_at, look_at, joined, places_of, places_step, too_many_turns}
-use Rattle.kernel_ast.specs.Weights.{assign_weight, loop_weight}
+use Rattle.kernel_ast.specs.Weights.{assign_weight, loop_weight, branch_weight}
 use Rattle.kernel_ast.proofs.Machines.{mapped, mapped-then, mapped-after, each_mapped}
 use Rattle.loop_unroll.specs.declared.progress.Progress.{Progress}
 use Rattle.loop_unroll.specs.declared.flat.Item.{Item}
@@ -131,6 +131,12 @@ module _ (decls : List Declared) where
   body_walked [] indices p = refl
   body_walked (e ∷ body) indices p = mapped-then turns_of turns_of _ _ _ _ (e.1 indices p) (body_walked body indices)
 
+  branch_walked : (holds : Bool) (taken other : List ((s : Stmt) × IsWalked s)) (indices : List ℤ) (p : Progress)
+      → mapped turns_of (in_turn (all_at (if holds then map (unrolled decls) (map (λ e. e.0) taken) else map (unrolled decls) (map (λ e. e.0) other)) indices) p)
+      ≡ in_turn (all_at (if holds then map (walk decls) (map (λ e. e.0) taken) else map (walk decls) (map (λ e. e.0) other)) indices) p.counted
+  branch_walked true taken other indices p = body_walked taken indices p
+  branch_walked false taken other indices p = body_walked other indices p
+
   turn_walked : (body : List ((s : Stmt) × IsWalked s)) (at : ℕ) (indices : List ℤ) (i : ℤ) (p : Progress)
       → mapped turns_of (one_turn (map (unrolled decls) (map (λ e. e.0) body)) at indices i p) ≡ walks.one_turn (map (walk decls) (map (λ e. e.0) body)) at indices i p.counted
   unfolding one_turn walks.one_turn
@@ -145,10 +151,14 @@ module _ (decls : List Declared) where
   stmt_parts : (y : Stmt-F ((s : Stmt) × IsWalked s)) → IsWalked (roll-Stmt (map-Stmt ((s : Stmt) × IsWalked s) Stmt (λ e. e.0) y))
   stmt_parts (Assign target value at) =
       stmt_opened (Assign target value at) (λ indices p. mapped-then turns_of turns_of _ _ _ _ (counted at (assign_weight target value) p) (added target value indices))
-  stmt_parts (Loop from to body at) =
-      stmt_opened (Loop from to (map (λ e. e.0) body) at) (λ indices p.
-      mapped-then turns_of turns_of _ _ _ _ (counted at (loop_weight from to) p) (λ q.
-      mapped-after turns_of (bounds indices from to) _ _ (λ b. each_mapped turns_of _ _ (numbers b.0 b.1) (turn_walked body at indices) q)))
+  stmt_parts (Loop from to by body at) =
+      stmt_opened (Loop from to by (map (λ e. e.0) body) at) (λ indices p.
+      mapped-then turns_of turns_of _ _ _ _ (counted at (loop_weight from to by) p) (λ q.
+      mapped-after turns_of (loop_numbers indices from to by) _ _ (λ ns. each_mapped turns_of _ _ ns (turn_walked body at indices) q)))
+  stmt_parts (Branch left rel right taken other at) =
+      stmt_opened (Branch left rel right (map (λ e. e.0) taken) (map (λ e. e.0) other) at) (λ indices p.
+      mapped-then turns_of turns_of _ _ _ _ (counted at (branch_weight left right) p) (λ q.
+      mapped-after turns_of (condition indices left rel right) _ _ (λ holds. branch_walked holds taken other indices q)))
 
   pub stmt_walked : (s : Stmt) → IsWalked s
   stmt_walked = ind-Stmt IsWalked (λ x y is. subst (λ z. IsWalked (roll-Stmt z)) is (stmt_parts y))

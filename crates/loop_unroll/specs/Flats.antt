@@ -1,7 +1,7 @@
 -- The executed assignments of a kernel (this project's convention): the walk goes through the statements, and writes down each assignment
 -- that it meets, with the elements that its places name and the indices of the open loops as constants. A right side is written in
 -- postfix order.
-use Rattle.std.specs.Prelude.{ℕ, ℤ, List, [], ◌∷◌, ◌++◌, map, Result, Ok}
+use Rattle.std.specs.Prelude.{ℕ, ℤ, if◌then◌else◌, List, [], ◌∷◌, ◌++◌, map, Result, Ok}
 use Rattle.comp_graph.specs.declared.operation.Op.{Op}
 use Rattle.comp_graph.specs.declared.operation.Op.TheVariants as op
 use Rattle.kernel_ast.specs.declared.tree.Expr.{Expr, fold-Expr}
@@ -9,15 +9,15 @@ use Rattle.kernel_ast.specs.declared.tree.Expr.TheOpen as expr
 use Rattle.kernel_ast.specs.declared.tree.Expr.TheFolds.{fold-Link}
 use Rattle.kernel_ast.specs.declared.tree.Link.{Link}
 use Rattle.kernel_ast.specs.declared.tree.Stmt.{Stmt, fold-Stmt}
-use Rattle.kernel_ast.specs.declared.tree.Stmt.TheOpen.{Stmt-F, Assign, Loop}
+use Rattle.kernel_ast.specs.declared.tree.Stmt.TheOpen.{Stmt-F, Assign, Loop, Branch}
 use Rattle.kernel_ast.specs.declared.tree.Place.{Place}
 use Rattle.kernel_ast.specs.declared.element.Cell.{Cell}
 use Rattle.kernel_ast.specs.declared.element.Fault.{Fault}
 use Rattle.kernel_ast.specs.KernelParts.{Declared}
-use Rattle.kernel_ast.specs.Steps.{and_then, in_turn, each, numbers}
-use Rattle.kernel_ast.specs.Places.{located, bounds, turn}
+use Rattle.kernel_ast.specs.Steps.{and_then, in_turn, each}
+use Rattle.kernel_ast.specs.Places.{located, loop_numbers, condition, turn}
 use Rattle.kernel_ast.specs.Walk.{count, all_at}
-use Rattle.kernel_ast.specs.Weights.{assign_weight, loop_weight}
+use Rattle.kernel_ast.specs.Weights.{assign_weight, loop_weight, branch_weight}
 use Rattle.loop_unroll.specs.declared.flat.Item.{Item}
 use Rattle.loop_unroll.specs.declared.flat.Item.TheVariants.{Number, Read, Apply}
 use Rattle.loop_unroll.specs.declared.flat.Flat.{Flat}
@@ -89,13 +89,16 @@ adding decls indices target value p = and_then (assigned decls indices target va
 unfoldable pub one_turn : List Unrolling → ℕ → List ℤ → ℤ → Progress → Result Progress Fault
 one_turn body at indices i p = and_then (counting at 1 p) (in_turn (all_at body (indices ++ i ∷ [])))
 
--- one layer of a statement: its turns are counted; then an assignment is written down, and a loop evaluates both bounds and goes through
--- its turns
+-- one layer of a statement: its turns are counted; then an assignment is written down, a loop evaluates its bounds and its step and goes
+-- through its turns, and a branch evaluates its sides and goes through one body
 abbrev pub unroll_step : List Declared → Stmt-F Unrolling → Unrolling
 unroll_step decls (Assign target value at) indices p = and_then (counting at (assign_weight target value) p) (adding decls indices target value)
-unroll_step decls (Loop from to body at) indices p =
-    and_then (counting at (loop_weight from to) p) (λ counted.
-    and_then (bounds indices from to) (λ b. each (one_turn body at indices) (numbers b.0 b.1) counted))
+unroll_step decls (Loop from to by body at) indices p =
+    and_then (counting at (loop_weight from to by) p) (λ counted.
+    and_then (loop_numbers indices from to by) (λ ns. each (one_turn body at indices) ns counted))
+unroll_step decls (Branch left rel right taken other at) indices p =
+    and_then (counting at (branch_weight left right) p) (λ counted.
+    and_then (condition indices left rel right) (λ holds. in_turn (all_at (if holds then taken else other) indices) counted))
 
 -- a statement
 abbrev pub unrolled : List Declared → Stmt → Unrolling

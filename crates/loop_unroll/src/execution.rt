@@ -1,7 +1,7 @@
 //! The execution of a kernel without values.
 ghost use Rattle.std.specs.Prelude.{◌≡◌, ◌≤◌, ◌++◌, ◌∷◌, [], map, OnOk, true};
 ghost use Rattle.std.specs.List.{list_all};
-ghost use Rattle.kernel_ast.specs.Steps.{each, numbers};
+ghost use Rattle.kernel_ast.specs.Steps.{each};
 ghost use Rattle.kernel_ast.specs.Walk.{walk_all};
 ghost use Rattle.kernel_walk.specs.LightStatements.{is_light};
 ghost use Rattle.kernel_walk.specs.Outcomes.{Gives};
@@ -12,7 +12,7 @@ ghost use Rattle.loop_unroll.specs.Flats as spec;
 use crate::flat::{Flats, ShapeEnd};
 use crate::progress::Progress;
 use kernel_ast::{Kernel, Stmt, weight};
-use kernel_walk::{Stop, bounds};
+use kernel_walk::{LoopNumbers, Stop, condition, loop_numbers};
 use sqlite_items::Items;
 use std::alloc::Global;
 
@@ -36,10 +36,31 @@ impl Execution {
                 self.progress
                     .add(alloc, kernel, self.indices.as_slice(), target, value)
             }
-            Stmt::Loop { from, to, body, at } => {
+            Stmt::Loop {
+                from,
+                to,
+                by,
+                body,
+                at,
+            } => {
                 self.progress.count(*at, weight(stmt))?;
-                let (from, to) = bounds(self.indices.as_slice(), from, to)?;
-                self.turns(alloc, kernel, body.as_slice(), *at, from, to)
+                let numbers = loop_numbers(self.indices.as_slice(), from, to, by)?;
+                self.turns(alloc, kernel, body.as_slice(), *at, numbers)
+            }
+            Stmt::Branch {
+                left,
+                rel,
+                right,
+                taken,
+                other,
+                at,
+            } => {
+                self.progress.count(*at, weight(stmt))?;
+                if condition(self.indices.as_slice(), left, *rel, right)? {
+                    self.statements(alloc, kernel, taken.as_slice())
+                } else {
+                    self.statements(alloc, kernel, other.as_slice())
+                }
             }
         }
     }
@@ -52,14 +73,13 @@ impl Execution {
         kernel: &Kernel,
         body: &[Stmt],
         at: u32,
-        from: i64,
-        to: i64,
+        numbers: LoopNumbers,
     ) -> Result<(), Stop>
         requires light { list_all is_light body.now ≡ true }
-        ensures unrolled { Gives (each (spec.one_turn (map (spec.unrolled kernel.now.decls) body.now) at self.old.indices.items) (numbers from to) self.old.progress) self.new.progress result }
+        ensures unrolled { Gives (each (spec.one_turn (map (spec.unrolled kernel.now.decls) body.now) at self.old.indices.items) numbers self.old.progress) self.new.progress result }
         ensures same { OnOk result (self.new.indices.items ≡ self.old.indices.items) }
     {
-        'each_turn: for i in from..to {
+        'each_turn: for i in numbers {
             self.one_turn(alloc, kernel, body, at, i)?;
         }
         Ok(())
@@ -119,9 +139,9 @@ fn flats_of(alloc: Global, kernel: &Kernel) -> Result<Flats, Stop>
 /// # Errors
 ///
 /// [`ShapeEnd::Fault`] with the first fault of the kernel's walk, exactly where it has one: 12 at the statement, or at the `for` of a
-/// loop's turn, where the turns counted so far and those to be counted now are above 65,536; 14 at an index or a bound in which a number,
-/// or the value of an operator or a minus sign, is below -1,000,000 or above 1,000,000; 7 at a place's name where an index value is below 0
-/// or not below its size. [`ShapeEnd::NoMemory`] where memory was wanted and not found.
+/// loop's turn, where the turns counted so far and those to be counted now are above 65,536; 14 at an index in which a number, or the value
+/// of an operator or a minus sign, is below -1,000,000 or above 1,000,000; 17 at a step whose value is below 1; 7 at a place's name where
+/// an index value is below 0 or not below its size. [`ShapeEnd::NoMemory`] where memory was wanted and not found.
 pub fn unroll(alloc: Global, kernel: &Kernel) -> Result<Flats, ShapeEnd>
     ensures flats { Answers (spec.flats kernel.now.decls kernel.now.body) result }
     ensures walk { Walked (walk_all kernel.now.decls kernel.now.body) result }

@@ -16,3 +16,4 @@ mod tests;
 
 pub use execution::unroll;
 pub use flat::{Flat, Flats, Item, ShapeEnd};
+pub use kernel_ast::Cell;

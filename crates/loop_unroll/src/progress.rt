@@ -5,8 +5,8 @@ ghost use Rattle.loop_unroll.specs.Flats as spec;
 
 use crate::flat::Flat;
 use crate::right_side::items_of;
-use kernel_ast::{Expr, Fault, Kernel, Place};
-use kernel_walk::{Stop, locate};
+use kernel_ast::{Expr, Kernel, Place};
+use kernel_walk::{Stop, count, locate};
 use sqlite_items::Items;
 use std::alloc::Global;
 
@@ -23,11 +23,7 @@ impl Progress {
     pub fn count(&mut self, at: u32, more: u32) -> Result<(), Stop>
         ensures { Gives (spec.counting at more self.old) self.new result }
     {
-        let counted = self.counted.saturating_add(more);
-        if counted > 65536 {
-            return Err(Stop::Fault(Fault { code: 12, at }));
-        }
-        self.counted = counted;
+        self.counted = count(at, more, self.counted)?;
         Ok(())
     }
 

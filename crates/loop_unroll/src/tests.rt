@@ -44,6 +44,7 @@ fn repeat(alloc: Global, n: u32) -> Result<Stmt, AllocError>
             at: 30,
             tree: IndexTree::Number(n as i64),
         },
+        by: None,
         body,
         at: 18,
     })

@@ -5,6 +5,7 @@ use Rattle.kernel_ast.specs.declared.tree.Expr.TheFolds.{fold-Link}
 use Rattle.kernel_ast.specs.declared.tree.Link.{Link}
 use Rattle.kernel_ast.specs.declared.element.Fault.{Fault}
 use Rattle.kernel_ast.specs.KernelParts.{KernelParts, Declared}
+use Rattle.kernel_ast.specs.RunRules.{most_vertices}
 use Rattle.kernel_ast.specs.Steps.{and_then}
 use Rattle.kernel_ast.specs.Walk.{walk_all}
 use Rattle.kernel_ast.specs.Machine.{Machine, Run, Elements, expr_step, link_step, run_all}
@@ -17,7 +18,7 @@ value number is_constant = record { number = number; is_constant = is_constant }
 
 -- a number at a new vertex; there are at most 256
 abbrev pub counted : ℕ → ℤ → ℕ → Result (Value × ℕ) Fault
-counted at number vertices = if nat_lt vertices 256 then Ok (value number false, vertices + 1) else Err (too_many_vertices at)
+counted at number vertices = if nat_lt vertices most_vertices then Ok (value number false, vertices + 1) else Err (too_many_vertices at)
 
 -- whether all are constants
 abbrev pub all_constant : List Value → Bool

@@ -7,20 +7,17 @@ ghost use Rattle.source_machine.specs.Numbers as spec;
 
 use crate::value::Value;
 use comp_graph::Op;
-use kernel_ast::{Expr, Fault, Kernel, Link, Place};
+use kernel_ast::{Expr, Kernel, Link, MAX_VERTICES, Place, RunRule};
 use kernel_walk::{Stop, Written, locate, turn};
 use sqlite_items::Items;
 use std::alloc::Global;
-
-/// The most vertices that a kernel's graph may have.
-const MAX_VERTICES: u32 = 256;
 
 /// A number at a new vertex.
 pub fn count(vertices: &mut u32, at: u32, number: i64) -> Result<Value, Stop>
     ensures { Yields (spec.counted at number vertices.old) vertices.new result }
 {
     if *vertices >= MAX_VERTICES {
-        return Err(Stop::Fault(Fault { code: 11, at }));
+        return Err(Stop::Fault(RunRule::TooManyVertices.at(at)));
     }
     *vertices += 1;
     Ok(Value {
@@ -90,10 +87,7 @@ impl<'a> Scope<'a> {
         let cell = locate(self.kernel, self.indices, place)?;
         match self.written.get(cell) {
             Some(value) => Ok(value),
-            None => Err(Stop::Fault(Fault {
-                code: 8,
-                at: place.at,
-            })),
+            None => Err(Stop::Fault(RunRule::Unset.at(place.at))),
         }
     }
 

@@ -1,6 +1,6 @@
 //! The execution of statements.
 ghost use Rattle.std.specs.Prelude.{◌≡◌, map, OnOk};
-ghost use Rattle.kernel_ast.specs.Steps.{each, in_turn, numbers};
+ghost use Rattle.kernel_ast.specs.Steps.{each, in_turn};
 ghost use Rattle.kernel_ast.specs.Walk.{all_at};
 ghost use Rattle.kernel_ast.specs.Machine as meaning;
 ghost use Rattle.kernel_walk.specs.Outcomes.{Gives, AnswersAs};
@@ -11,7 +11,7 @@ use crate::evaluation::Scope;
 use crate::inputs::Inputs;
 use crate::value::Value;
 use kernel_ast::{Expr, Kernel, Place, Stmt};
-use kernel_walk::{Stop, Written, bounds, locate};
+use kernel_walk::{LoopNumbers, Stop, Written, condition, locate, loop_numbers};
 use std::alloc::Global;
 
 /// An execution that is under way: the indices of the open loops from outside, the elements that are set, and the number of vertices.
@@ -68,9 +68,29 @@ impl Execution {
     {
         match stmt {
             Stmt::Assign { target, value, .. } => self.assign(alloc, kernel, target, value),
-            Stmt::Loop { from, to, body, .. } => {
-                let (from, to) = bounds(self.indices.as_slice(), from, to)?;
-                self.turns(alloc, kernel, body.as_slice(), from, to)
+            Stmt::Loop {
+                from,
+                to,
+                by,
+                body,
+                ..
+            } => {
+                let numbers = loop_numbers(self.indices.as_slice(), from, to, by)?;
+                self.turns(alloc, kernel, body.as_slice(), numbers)
+            }
+            Stmt::Branch {
+                left,
+                rel,
+                right,
+                taken,
+                other,
+                ..
+            } => {
+                if condition(self.indices.as_slice(), left, *rel, right)? {
+                    self.statements(alloc, kernel, taken.as_slice())
+                } else {
+                    self.statements(alloc, kernel, other.as_slice())
+                }
             }
         }
     }
@@ -82,13 +102,12 @@ impl Execution {
         alloc: Global,
         kernel: &Kernel,
         body: &[Stmt],
-        from: i64,
-        to: i64,
+        numbers: LoopNumbers,
     ) -> Result<(), Stop>
-        ensures executed { Gives (each (meaning.one_pass (map (meaning.execute spec.numbers kernel.now.decls) body.now) self.old.indices.items) (numbers from to) (state self.old)) (state self.new) result }
+        ensures executed { Gives (each (meaning.one_pass (map (meaning.execute spec.numbers kernel.now.decls) body.now) self.old.indices.items) numbers (state self.old)) (state self.new) result }
         ensures same { OnOk result (self.new.indices.items ≡ self.old.indices.items) }
     {
-        'each_turn: for i in from..to {
+        'each_turn: for i in numbers {
             self.one_turn(alloc, kernel, body, i)?;
         }
         Ok(())

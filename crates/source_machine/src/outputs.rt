@@ -13,7 +13,7 @@ ghost use Rattle.source_machine.specs.States.{left, state};
 use crate::evaluation::count;
 use crate::execution::Execution;
 use crate::value::Value;
-use kernel_ast::{Cell, DeclKind, Fault, Kernel};
+use kernel_ast::{Cell, DeclKind, Kernel, RunRule};
 use kernel_walk::{Stop, Written, element_count};
 use std::alloc::Global;
 
@@ -55,7 +55,7 @@ impl Outputs {
         ensures { Gives (meaning.leave spec.numbers (elements written.now) (at, cell) (left self.old)) (left self.new) result }
     {
         let Some(value) = written.get(cell) else {
-            return Err(Stop::Fault(Fault { code: 10, at }));
+            return Err(Stop::Fault(RunRule::OutputUnset.at(at)));
         };
         let value = self.settle(at, value)?;
         self.held.push(value)?;

@@ -9,7 +9,7 @@ use kernel_walk::Stop;
 pub enum RunEnd {
     /// The kernel's run has a fault, whatever the values are.
     Shape {
-        /// The number of the rule that is broken: 7, 8, 10, 11, 12 or 14.
+        /// The code of the rule that is broken, as `RunRule` of `kernel_ast` lists them: 7, 8, 10, 11, 12, 14 or 17.
         code: u8,
         /// Its place in the kernel's text, in bytes from 0.
         at: u32,

@@ -47,7 +47,7 @@ fn numbers_of(alloc: Global, held: &[Value]) -> Result<Vec<i64>, NoMemory>
 ///
 /// # Errors
 ///
-/// [`RunEnd::Shape`] with the kernel's first fault, exactly where it has one: first the walk's (12, 14, 7), and then those of the values:
+/// [`RunEnd::Shape`] with the kernel's first fault, exactly where it has one: first the walk's (12, 14, 17, 7), and then those of the values:
 /// 11 at an input's or an output's name in its declaration, or at an operator's sign or function word, where there would be more than 256
 /// vertices; 8 at the name of a place that is read and not set; 10 at an output's name in its declaration, where an element is not set in
 /// the end. It does not hang on the values.

@@ -63,6 +63,7 @@ fn repeat(alloc: Global, n: u32) -> Result<Stmt, AllocError>
             at: 43,
             tree: IndexTree::Number(n as i64),
         },
+        by: None,
         body: statements,
         at: 29,
     })

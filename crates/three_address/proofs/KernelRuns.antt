@@ -14,21 +14,21 @@ use Rattle.kernel_ast.specs.declared.tree.Expr.TheOpen as expr
 use Rattle.kernel_ast.specs.declared.tree.Expr.TheFolds.{fold-Link, fold-roll-Expr, fold-roll-Link, ind-Expr, map-Expr, map-Link}
 use Rattle.kernel_ast.specs.declared.tree.Link.{Link, roll-Link}
 use Rattle.kernel_ast.specs.declared.tree.Stmt.{Stmt, roll-Stmt}
-use Rattle.kernel_ast.specs.declared.tree.Stmt.TheOpen.{Stmt-F, Assign, Loop}
+use Rattle.kernel_ast.specs.declared.tree.Stmt.TheOpen.{Stmt-F, Assign, Loop, Branch}
 use Rattle.kernel_ast.specs.declared.tree.Stmt.TheFolds.{fold-roll-Stmt, ind-Stmt, map-Stmt}
 use Rattle.kernel_ast.specs.declared.tree.DeclKind.TheVariants as kinds
 use Rattle.kernel_ast.specs.declared.tree.Place.{Place}
 use Rattle.kernel_ast.specs.declared.element.Cell.{Cell}
 use Rattle.kernel_ast.specs.declared.element.Fault.{Fault}
 use Rattle.kernel_ast.specs.KernelParts.{KernelParts, Declared}
-use Rattle.kernel_ast.specs.Steps.{and_then, in_turn, each, numbers}
-use Rattle.kernel_ast.specs.Places.{located, bounds, turn}
+use Rattle.kernel_ast.specs.Steps.{and_then, in_turn, each}
+use Rattle.kernel_ast.specs.Places.{located, loop_numbers, condition, turn}
 use Rattle.kernel_ast.specs.Walk.{all_at}
 use Rattle.kernel_ast.specs.Machine.{Run, Elements, State, Execution, unset, output_unset, read_option, chain, arguments, expr_step, link_step, evaluate, assign, one_pass, stmt_step, execute, execute_all, enter, held, leave, cells_of, no_elements, run_all, put}
 use Rattle.kernel_ast.specs.Meaning.{Held, Entry, entry, numbered, numbered_input, with_number, too_many_vertices}
-use Rattle.kernel_ast.specs.WellFormed.{level_of, are_of_one_level, are_operators, is_function, all, expr_fits_step, expr_fits, stmt_fits_step, stmt_fits, body_fits, target_fits, index_fits}
+use Rattle.kernel_ast.specs.WellFormed.{level_of, are_of_one_level, are_operators, is_function, all, expr_fits_step, expr_fits, stmt_fits_step, stmt_fits, body_fits, target_fits, index_fits, step_fits}
 use Rattle.kernel_ast.specs.WellFormed as well
-use Rattle.kernel_ast.specs.Weights.{assign_weight, loop_weight}
+use Rattle.kernel_ast.specs.Weights.{assign_weight, loop_weight, branch_weight}
 use Rattle.three_address.proofs.KernelLogs.{Valuation, IsStart, IsLog, IsSound, AreSound, Grows, grows_push, all_later, sound_later, elements_later, start_push, IsOperation, IsNode-input, Kept, kept_same, kept_err, kept_then, kept_after, each_kept, operated, IsPut, put_out, put_sound}
 
 -- ---- the operations of a tree
@@ -221,6 +221,11 @@ module _ (z : Valuation) (decls : List Declared) where
       let fits = and_parts (stmt_fits decls e.0 loops) (well.all_at loops (map (stmt_fits decls) (map (λ e. e.0) body))) fit in
       kept_then z (AreSound z) (AreSound z) log _ _ (e.1 loops fits.0 indices elements log l s) (λ after next m g found. body_good body loops fits.1 indices after next m found)
 
+  branch_good : (holds : Bool) (taken other : List ((s : Stmt) × IsStmtGood s)) (loops : ℕ) → well.all_at loops (map (stmt_fits decls) (map (λ e. e.0) taken)) ≡ true → well.all_at loops (map (stmt_fits decls) (map (λ e. e.0) other)) ≡ true
+      → (indices : List ℤ) → IsStep (in_turn (all_at (if holds then map (execute numbered decls) (map (λ e. e.0) taken) else map (execute numbered decls) (map (λ e. e.0) other)) indices))
+  branch_good true taken other loops f g indices elements log l s = body_good taken loops f indices elements log l s
+  branch_good false taken other loops f g indices elements log l s = body_good other loops g indices elements log l s
+
   pass_good : (body : List ((s : Stmt) × IsStmtGood s)) (loops : ℕ) → well.all_at loops (map (stmt_fits decls) (map (λ e. e.0) body)) ≡ true
       → (indices : List ℤ) (i : ℤ) → IsStep (one_pass (map (execute numbered decls) (map (λ e. e.0) body)) indices i)
   unfolding one_pass
@@ -232,16 +237,28 @@ module _ (z : Valuation) (decls : List Declared) where
       let parts = and_parts (target_fits decls loops target) (expr_fits decls loops value && nat_le (assign_weight target value) 65536) f in
       let more = and_parts (expr_fits decls loops value) (nat_le (assign_weight target value) 65536) parts.1 in
       assigned target value loops more.0 indices elements log l s)
-  stmt_parts (Loop from to body at) =
-      stmt_opened (Loop from to (map (λ e. e.0) body) at) (λ loops f indices elements log l s.
+  stmt_parts (Loop from to by body at) =
+      stmt_opened (Loop from to by (map (λ e. e.0) body) at) (λ loops f indices elements log l s.
       let fits : Bool = well.all_at (suc loops) (map (stmt_fits decls) (map (λ e. e.0) body)) in
-      let one = and_parts (nat_lt loops 32) (index_fits loops from && (index_fits loops to && (nat_le (loop_weight from to) 65536 && fits))) f in
-      let two = and_parts (index_fits loops from) (index_fits loops to && (nat_le (loop_weight from to) 65536 && fits)) one.1 in
-      let three = and_parts (index_fits loops to) (nat_le (loop_weight from to) 65536 && fits) two.1 in
-      let four = and_parts (nat_le (loop_weight from to) 65536) fits three.1 in
-      kept_after z (AreSound z) log (bounds indices from to) _ (λ b.
-      each_kept z (AreSound z) (one_pass (map (execute numbered decls) (map (λ e. e.0) body)) indices) (numbers b.0 b.1)
-      (λ i after next m found. pass_good body (suc loops) four.1 indices i after next m found) elements log l s))
+      let light : Bool = nat_le (loop_weight from to by) 65536 in
+      let one = and_parts (nat_lt loops 32) (index_fits loops from && (index_fits loops to && (step_fits loops by && (light && fits)))) f in
+      let two = and_parts (index_fits loops from) (index_fits loops to && (step_fits loops by && (light && fits))) one.1 in
+      let three = and_parts (index_fits loops to) (step_fits loops by && (light && fits)) two.1 in
+      let four = and_parts (step_fits loops by) (light && fits) three.1 in
+      let five = and_parts light fits four.1 in
+      kept_after z (AreSound z) log (loop_numbers indices from to by) _ (λ ns.
+      each_kept z (AreSound z) (one_pass (map (execute numbered decls) (map (λ e. e.0) body)) indices) ns
+      (λ i after next m found. pass_good body (suc loops) five.1 indices i after next m found) elements log l s))
+  stmt_parts (Branch left rel right taken other at) =
+      stmt_opened (Branch left rel right (map (λ e. e.0) taken) (map (λ e. e.0) other) at) (λ loops f indices elements log l s.
+      let first : Bool = well.all_at loops (map (stmt_fits decls) (map (λ e. e.0) taken)) in
+      let second : Bool = well.all_at loops (map (stmt_fits decls) (map (λ e. e.0) other)) in
+      let light : Bool = nat_le (branch_weight left right) 65536 in
+      let one = and_parts (index_fits loops left) (index_fits loops right && (light && (first && second))) f in
+      let two = and_parts (index_fits loops right) (light && (first && second)) one.1 in
+      let three = and_parts light (first && second) two.1 in
+      let four = and_parts first second three.1 in
+      kept_after z (AreSound z) log (condition indices left rel right) _ (λ holds. branch_good holds taken other loops four.0 four.1 indices elements log l s))
 
   stmt_layer : (x : Stmt-F Stmt) (y : Stmt-F ((s : Stmt) × IsStmtGood s)) → map-Stmt ((s : Stmt) × IsStmtGood s) Stmt (λ e. e.0) y ≡ x → IsStmtGood (roll-Stmt x)
   stmt_layer x y is = subst (λ w. IsStmtGood (roll-Stmt w)) is (stmt_parts y)

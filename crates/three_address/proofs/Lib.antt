@@ -1,3 +1,4 @@
+-- The lemmas of this crate: the graph is that of the meaning.
 pub mod GraphLowered
 pub mod KernelGraphLaws
 pub mod KernelLogs

@@ -12,7 +12,7 @@ use Rattle.kernel_ast.specs.Machine.{run_all}
 use Rattle.kernel_ast.specs.Meaning.{Held, Entry, entry, constants, add_constant, value_at, numbered, numbered_input, append_entry, fold_or_append, set_output, with_number, too_many_vertices}
 use Rattle.kernel_ast.specs.KernelGraph.{node_of}
 use Rattle.kernel_ast.proofs.Machines.{mapped, both, Pictures, run_pictured}
-use Rattle.three_address.specs.Lowering.{node, append_node, is_constant, are_constants, number_of, folded, settle, lowering, input_node}
+use Rattle.three_address.specs.Lowering.{node, append_node, is_constant, are_constants, number_of, folded_value, settle, lowering, input_node}
 
 abbrev pub origin : Held → Operand
 origin a = a.origin
@@ -51,7 +51,7 @@ constants_are (o ∷ os) = ap (add_constant o) (constants_are os) ∙ first o (a
     first (Vertex v) false = refl
 
 operated : (number : List ℤ → ℤ) (o : Op) (at : ℕ) (os : List Operand) (log : List Entry) (b : Bool)
-    → mapped (both origin nodes_of) (and_then (fold_or_append o at os (constants_if b os) log) (with_number number)) ≡ (if b then Ok (Const (folded o os), nodes_of log) else append_node at o os (nodes_of log))
+    → mapped (both origin nodes_of) (and_then (fold_or_append o at os (constants_if b os) log) (with_number number)) ≡ (if b then Ok (Const (folded_value o os), nodes_of log) else append_node at o os (nodes_of log))
 operated number o at os log true = refl
 operated number o at os log false = appended number at o os log
 

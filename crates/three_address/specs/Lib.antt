@@ -1,3 +1,4 @@
+-- The definitions of this crate: the graph from the executed assignments, and the laws of graphs.
 pub mod Declarations
 pub mod ElementsLeft
 pub mod Laws

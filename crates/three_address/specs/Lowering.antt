@@ -6,6 +6,7 @@ use Rattle.comp_graph.specs.declared.operation.Op.TheVariants as op
 use Rattle.comp_graph.specs.declared.node.Operand.{Operand}
 use Rattle.comp_graph.specs.declared.node.Operand.TheVariants.{Vertex, Const}
 use Rattle.comp_graph.specs.declared.node.Node.{Node}
+use Rattle.kernel_ast.specs.RunRules.{most_vertices}
 use Rattle.kernel_ast.specs.Machine.{Machine, Run}
 use Rattle.kernel_ast.specs.Meaning.{value_at, too_many_vertices}
 
@@ -19,7 +20,7 @@ node op args = record { op = op; args = operand_at args 0 ∷ operand_at args 1 
 
 -- a node is appended, and is a new vertex; there are at most 256
 abbrev pub append_node : ℕ → Op → List Operand → Run Operand (List Node)
-append_node at op args nodes = if nat_lt (length nodes) 256 then Ok (Vertex (length nodes), nodes ++ node op args ∷ []) else Err (too_many_vertices at)
+append_node at op args nodes = if nat_lt (length nodes) most_vertices then Ok (Vertex (length nodes), nodes ++ node op args ∷ []) else Err (too_many_vertices at)
 
 -- an operand is a constant
 abbrev pub is_constant : Operand → Bool
@@ -37,12 +38,12 @@ number_of (Const n) = n
 number_of (Vertex v) = pos 0
 
 -- the value of an operation on constants
-abbrev pub folded : Op → List Operand → ℤ
-folded op args = value_at op (map number_of args)
+abbrev pub folded_value : Op → List Operand → ℤ
+folded_value op args = value_at op (map number_of args)
 
 -- an operation on constants alone is a constant, and each other one is a new vertex
 abbrev pub operate : Op → ℕ → List Operand → Run Operand (List Node)
-operate op at args nodes = if are_constants args then Ok (Const (folded op args), nodes) else append_node at op args nodes
+operate op at args nodes = if are_constants args then Ok (Const (folded_value op args), nodes) else append_node at op args nodes
 
 -- an output element that holds a constant is a new vertex
 abbrev pub settle : ℕ → Operand → Run Operand (List Node)

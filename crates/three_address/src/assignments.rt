@@ -9,7 +9,7 @@ ghost use Rattle.three_address.specs.Lowering as spec;
 
 use crate::vertices::operate;
 use comp_graph::{Node, Operand};
-use kernel_ast::{Cell, Fault};
+use kernel_ast::{Cell, RunRule};
 use kernel_walk::{Stop, Written};
 use loop_unroll::{Flat, Item};
 use std::alloc::Global;
@@ -31,7 +31,7 @@ fn read(
 {
     match written.get(cell) {
         Some(operand) => Ok(operand),
-        None => Err(Stop::Fault(Fault { code: 8, at })),
+        None => Err(Stop::Fault(RunRule::Unset.at(at))),
     }
 }
 

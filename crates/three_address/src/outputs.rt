@@ -15,7 +15,7 @@ use crate::elements::Elements;
 use crate::vertices::settle;
 use comp_graph::{Node, Operand, Output};
 use indexmap::IndexMap;
-use kernel_ast::{Decl, DeclKind, Fault, Name};
+use kernel_ast::{Decl, DeclKind, Name, RunRule};
 use kernel_walk::{Stop, Written};
 use std::alloc::Global;
 
@@ -34,7 +34,7 @@ impl Outputs {
     {
         let Element { label, at, cell } = element;
         let Some(origin) = written.get(cell) else {
-            return Err(Stop::Fault(Fault { code: 10, at }));
+            return Err(Stop::Fault(RunRule::OutputUnset.at(at)));
         };
         let vertex = vertex_of(settle(at, origin, &mut self.nodes)?);
         self.found.push(Output { label, vertex })?;

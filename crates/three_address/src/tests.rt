@@ -97,6 +97,7 @@ fn repeat(alloc: Global, n: u32) -> Result<Stmt, AllocError>
             at: 47,
             tree: IndexTree::Number(n as i64),
         },
+        by: None,
         body,
         at: 33,
     })

@@ -4,7 +4,7 @@ ghost use Rattle.kernel_walk.specs.Outcomes.{Yields};
 ghost use Rattle.three_address.specs.Lowering as spec;
 
 use comp_graph::{Node, Op, Operand};
-use kernel_ast::Fault;
+use kernel_ast::{MAX_VERTICES, RunRule};
 use kernel_walk::Stop;
 
 fn operand_at(args: &[Operand], k: usize) -> Operand
@@ -21,8 +21,8 @@ fn append_node(at: u32, op: Op, args: &[Operand], nodes: &mut Vec<Node>) -> Resu
     ensures { Yields (spec.append_node at op args.now nodes.old.items) nodes.new.items result }
 {
     let vertex = nodes.len();
-    if vertex >= 256 {
-        return Err(Stop::Fault(Fault { code: 11, at }));
+    if vertex >= MAX_VERTICES as usize {
+        return Err(Stop::Fault(RunRule::TooManyVertices.at(at)));
     }
     let args = [
         operand_at(args, 0),
@@ -54,8 +54,8 @@ fn number_at(args: &[Operand], k: usize) -> i64
 }
 
 /// The value of an operation on constants. An input, which no kernel's text can write, counts as 0.
-fn folded(op: Op, args: &[Operand]) -> i64
-    ensures { result ≡ spec.folded op args.now }
+fn folded_value(op: Op, args: &[Operand]) -> i64
+    ensures { result ≡ spec.folded_value op args.now }
 {
     let numbers = [number_at(args, 0), number_at(args, 1), number_at(args, 2)];
     match op {
@@ -69,7 +69,7 @@ pub fn operate(op: Op, at: u32, args: &[Operand], nodes: &mut Vec<Node>) -> Resu
     ensures { Yields (spec.operate op at args.now nodes.old.items) nodes.new.items result }
 {
     if are_constants(args) {
-        Ok(Operand::Const(folded(op, args)))
+        Ok(Operand::Const(folded_value(op, args)))
     } else {
         append_node(at, op, args, nodes)
     }

@@ -1,7 +1,7 @@
 -- A loop reads a list: what was found before a turn, with the list that is still to be read, is the whole list.
 use Rattle.std.proofs.Common.{◌≡◌, ℕ, zero, suc, ◌+◌, ◌<◌, ◌≤◌, Bool, true, false, cond, List, [], ◌∷◌, ◌++◌, length, Option, None, refl, sym, ap, ◌∙◌, ⊎_elim, arith, append_assoc, length-append, append-nil}
-use Rattle.word_grammar.specs.declared.fault.Fault.{Fault}
-use Rattle.word_grammar.specs.declared.fault.Fault.TheVariants.{Syntax}
+use Rattle.word_grammar.specs.declared.fault.GrammarFault.{GrammarFault}
+use Rattle.word_grammar.specs.declared.fault.GrammarFault.TheVariants.{Syntax}
 use Rattle.word_grammar.specs.Phrases.{Phrase}
 use Rattle.word_grammar.specs.Readers.{Read, Got, Bad, Reader, first, and_then, one, both, made, many_by, many, with_front}
 use Rattle.word_grammar.proofs.Parts.{Sound, Begins, not_both, chosen, got}
@@ -38,7 +38,7 @@ module _ {T A : Type 0} (test : Option T → Bool) (p : Reader T A) (end : test 
   many_done found [] t = ap (λ x. Got x []) (append-nil found)
   many_done found (u ∷ ts) t = rw (t) (ap (λ x. Got x (u ∷ ts)) (append-nil found))
 
-  pub many_failed : (found : List A) (ts : List T) (c : Fault) (rest : List T) → test (first ts) ≡ true → p ts ≡ Bad c rest → with_front found (many test p ts) ≡ Bad c rest
+  pub many_failed : (found : List A) (ts : List T) (c : GrammarFault) (rest : List T) → test (first ts) ≡ true → p ts ≡ Bad c rest → with_front found (many test p ts) ≡ Bad c rest
   many_failed found [] c rest t e = not_both (test None) t end
   many_failed found (u ∷ ts) c rest t e = rw (t) (rw (e) refl)
 

@@ -1,8 +1,8 @@
 -- The small grammar's steps, put together as its rules are.
 use Rattle.std.proofs.Common.{◌≡◌, ℕ, zero, suc, true, false, eqb, List, [], ◌∷◌, Some, refl, inl, inr, ◌⊎◌, arith}
 use Rattle.std.specs.Prelude.{◌||◌, ◌&&◌, not}
-use Rattle.word_grammar.specs.declared.fault.Fault.{Fault}
-use Rattle.word_grammar.specs.declared.fault.Fault.TheVariants.{Syntax}
+use Rattle.word_grammar.specs.declared.fault.GrammarFault.{GrammarFault}
+use Rattle.word_grammar.specs.declared.fault.GrammarFault.TheVariants.{Syntax}
 use Rattle.word_grammar.specs.Phrases.{Phrase, One, Both, Many}
 use Rattle.word_grammar.specs.Readers.{Reader, sees}
 use Rattle.word_grammar.specs.Nested.{is_open, is_close, is_item, is_part, single, inside, Item, Group, Part, item, group, part}
@@ -15,7 +15,7 @@ item_starts = starts_made (λ t. is_item t ≡ true) single (One is_item) (start
 item_no_group : Begins (sees is_open) false any Item
 item_no_group = begins_by (λ t. is_item t ≡ true) Item (sees is_open) any false item_starts (λ t q. apart t 2 0 q refl)
 
-item_step : (c : Fault) → Step c any item item Item Item Item
+item_step : (c : GrammarFault) → Step c any item item Item Item Item
 item_step c = step_made single (step_one c is_item 2 refl)
 
 abbrev PartStart : ℕ → Type 0
@@ -35,7 +35,7 @@ part_begins d = begins_by PartStart (Part d) (sees is_part) any true (part_start
 group_end : Leads (Ends any (sees is_part)) any (One is_close)
 group_end = leads_by (λ t. is_close t ≡ true) (One is_close) (Ends any (sees is_part)) any (starts_one is_close) (λ t q. at_kind t 1 (λ n. true && not (eqb n 0 || eqb n 2)) true q refl)
 
-group_step : (c : Fault) (p p' : Reader ℕ ℕ) (R R' R⁺ : Phrase ℕ ℕ) → Begins (sees is_part) true any R → Begins (sees is_part) true any R' → Step c any p p' R R' R⁺ → Step c any (group p) (group p') (Group R) (Group R') (Group R⁺)
+group_step : (c : GrammarFault) (p p' : Reader ℕ ℕ) (R R' R⁺ : Phrase ℕ ℕ) → Begins (sees is_part) true any R → Begins (sees is_part) true any R' → Step c any p p' R R' R⁺ → Step c any (group p) (group p') (Group R) (Group R') (Group R⁺)
 group_step c p p' R R' R⁺ b b' x =
     let m = step_both group_end group_end (step_many (sees is_part) refl b b' x) (step_one c is_close 1 refl) in
     step_made inside (step_both (free any (Both (Many R) (One is_close))) (free any (Both (Many R') (One is_close))) (step_one c is_open 0 refl) m)
@@ -44,7 +44,7 @@ group_step c p p' R R' R⁺ b b' x =
 opens_group : (R : Phrase ℕ ℕ) (t : ℕ) → is_open t ≡ true → (more : List ℕ) × (a : ℕ) × Group R (t ∷ more) a
 opens_group R t e = (1 ∷ [], inside (t, ([], 1)), ((t, ([], 1)), (t ∷ [], 1 ∷ [], refl, (refl, e), ([], 1 ∷ [], refl, refl, (refl, refl))), refl))
 
-pub part_step : (c : Fault) (d d' : ℕ) → Levels c d d' → Step c any (part d) (part d') (Part d) (Part d') (Part (suc d))
+pub part_step : (c : GrammarFault) (d d' : ℕ) → Levels c d d' → Step c any (part d) (part d') (Part d) (Part d') (Part (suc d))
 part_step c zero zero h = step_shut (sees is_open) (Group (Part 0)) refl (λ w t i. opens_group (Part 0) t i) item_no_group item_no_group (item_step c)
 part_step c zero (suc e) h =
     let x = part_step Syntax e e (omega arith) in

@@ -1,8 +1,8 @@
 -- Each way to put readers together keeps what a reader owes.
 use Rattle.std.proofs.Common.{◌≡◌, ℕ, zero, suc, ◌+◌, ◌≤◌, Bool, true, false, cond, List, [], ◌∷◌, ◌++◌, length, Option, None, refl, sym, ap, ◌∙◌, subst, inl, inr, ◌⊎◌, ⊎_elim, arith, append_assoc, length-append, append-nil}
 use Rattle.std.specs.Prelude.{◌&&◌, not}
-use Rattle.word_grammar.specs.declared.fault.Fault.{Fault}
-use Rattle.word_grammar.specs.declared.fault.Fault.TheVariants.{Syntax, TooDeep}
+use Rattle.word_grammar.specs.declared.fault.GrammarFault.{GrammarFault}
+use Rattle.word_grammar.specs.declared.fault.GrammarFault.TheVariants.{Syntax, TooDeep}
 use Rattle.word_grammar.specs.Phrases.{Phrase, One, Both, Either, Made, Many}
 use Rattle.word_grammar.specs.Readers.{Read, Got, Bad, Reader, first, and_then, one, both, made, either, many_by, many}
 
@@ -11,6 +11,10 @@ use Rattle.word_grammar.specs.Readers.{Read, Got, Bad, Reader, first, and_then, 
 -- What is read is a phrase, and what follows it may follow.
 abbrev pub Sound : {T A : Type 0} → (Option T → Bool) → Reader T A → Phrase T A → Type 0
 Sound {T = T} {A = A} F p R = (ts : List T) (a : A) (rest : List T) → p ts ≡ Got a rest → (u : List T) × (ts ≡ u ++ rest) × R u a × (F (first rest) ≡ true)
+
+-- The same of what is read of these tokens.
+abbrev pub SoundAt : {T A : Type 0} → (Option T → Bool) → Reader T A → Phrase T A → List T → Type 0
+SoundAt {T = T} {A = A} F p R ts = (a : A) (rest : List T) → p ts ≡ Got a rest → (u : List T) × (ts ≡ u ++ rest) × R u a × (F (first rest) ≡ true)
 
 -- A phrase is read where what follows it may follow.
 abbrev pub Complete : {T A : Type 0} → (Option T → Bool) → Reader T A → Phrase T A → Type 0
@@ -26,7 +30,7 @@ pub record Deeper {T A : Type 0} (R⁺ : Phrase T A) (seen rest : List T) : Type
   pub alive : R⁺ (seen ++ token ∷ more) value
 
 -- The tokens before a fault begin a phrase, and the fault stands whatever comes after its token.
-pub record Stops {T A : Type 0} (c : Fault) (p' : Reader T A) (R R⁺ : Phrase T A) (ts rest : List T) : Type 0 where
+pub record Stops {T A : Type 0} (c : GrammarFault) (p' : Reader T A) (R R⁺ : Phrase T A) (ts rest : List T) : Type 0 where
   pub seen : List T
   pub split : ts ≡ seen ++ rest
   pub more : List T
@@ -35,7 +39,7 @@ pub record Stops {T A : Type 0} (c : Fault) (p' : Reader T A) (R R⁺ : Phrase T
   pub again : (rest' : List T) → first rest' ≡ first rest → p' (seen ++ rest') ≡ Bad c rest'
   pub deeper : c ≡ TooDeep → Deeper R⁺ seen rest
 
-abbrev pub Stopping : {T A : Type 0} → Fault → Reader T A → Reader T A → Phrase T A → Phrase T A → Type 0
+abbrev pub Stopping : {T A : Type 0} → GrammarFault → Reader T A → Reader T A → Phrase T A → Phrase T A → Type 0
 Stopping {T = T} c p p' R R⁺ = (ts rest : List T) → p ts ≡ Bad c rest → Stops c p' R R⁺ ts rest
 
 abbrev pub Within : {T A : Type 0} → Phrase T A → Phrase T A → Type 0
@@ -47,7 +51,7 @@ pub got : {T A B : Type 0} (o : Read T A) (f : A → Reader T B) (b : B) (rest :
 got (Got a mid) f b rest e = (a, mid, refl, e)
 got (Bad c r) f b rest e = absurd (cc)
 
-pub bad : {T A B : Type 0} (o : Read T A) (f : A → Reader T B) (c : Fault) (rest : List T) → and_then o f ≡ Bad c rest → (o ≡ Bad c rest) ⊎ ((a : A) × (mid : List T) × (o ≡ Got a mid) × (f a mid ≡ Bad c rest))
+pub bad : {T A B : Type 0} (o : Read T A) (f : A → Reader T B) (c : GrammarFault) (rest : List T) → and_then o f ≡ Bad c rest → (o ≡ Bad c rest) ⊎ ((a : A) × (mid : List T) × (o ≡ Got a mid) × (f a mid ≡ Bad c rest))
 bad (Got a mid) f c rest e = inr (a, mid, refl, e)
 bad (Bad c' r) f c rest e = inl (cc)
 
@@ -118,10 +122,10 @@ both_within R R' S S' f g w ab r = (r.0, r.1, r.2, f r.0 ab.0 r.3, g r.1 ab.1 r.
 abbrev pub Some_word : {T A : Type 0} → Phrase T A → Type 0
 Some_word {T = T} {A = A} R = (u : List T) × (a : A) × R u a
 
-module _ {T A B : Type 0} (F : Option T → Bool) (c : Fault) (p p' : Reader T A) (q q' : Reader T B) (R R' R⁺ : Phrase T A) (S S⁺ : Phrase T B) where
-  both_stops_second : Sound F p R → Within R R' → Complete F p' R' → Within R R⁺ → Stopping c q q' S S⁺ → (ts rest : List T) (a : A) (mid : List T) → p ts ≡ Got a mid → q mid ≡ Bad c rest → Stops c (both p' q') (Both R S) (Both R⁺ S⁺) ts rest
-  both_stops_second sp w kp up hq ts rest a mid e f =
-      let u = sp ts a mid e in
+module _ {T A B : Type 0} (F : Option T → Bool) (c : GrammarFault) (p p' : Reader T A) (q q' : Reader T B) (R R' R⁺ : Phrase T A) (S S⁺ : Phrase T B) where
+  both_stops_second : (ts : List T) → SoundAt F p R ts → Within R R' → Complete F p' R' → Within R R⁺ → Stopping c q q' S S⁺ → (rest : List T) (a : A) (mid : List T) → p ts ≡ Got a mid → q mid ≡ Bad c rest → Stops c (both p' q') (Both R S) (Both R⁺ S⁺) ts rest
+  both_stops_second ts sp w kp up hq rest a mid e f =
+      let u = sp a mid e in
       let s = hq mid rest f in
       let split : ts ≡ (u.0 ++ s.seen) ++ rest = u.1 ∙ ap (λ r. u.0 ++ r) s.split ∙ sym (append_assoc u.0 s.seen rest) in
       let alive : Both R S ((u.0 ++ s.seen) ++ s.more) (a, s.value) = (u.0, s.seen ++ s.more, append_assoc u.0 s.seen s.more, u.2, s.alive) in
@@ -155,12 +159,16 @@ module _ {T A B : Type 0} (F : Option T → Bool) (c : Fault) (p p' : Reader T A
         again = λ rest' same. ap (λ o. and_then {B = A × B} o (λ a mid. and_then {B = A × B} (q' mid) (λ b z. Got (a, b) z))) (s.again rest' same);
       }
 
-  pub both_stops : Sound F p R → Within R R' → Complete F p' R' → Some_word S⁺ → Some_word S → Stopping c p p' R R⁺ → Within R R⁺ → Stopping c q q' S S⁺ → Stopping c (both p q) (both p' q') (Both R S) (Both R⁺ S⁺)
-  both_stops sp w kp some⁺ some hp up hq ts rest e =
+  -- at tokens of which the first part is sound
+  pub both_stops_at : (ts : List T) → SoundAt F p R ts → Within R R' → Complete F p' R' → Some_word S⁺ → Some_word S → Stopping c p p' R R⁺ → Within R R⁺ → Stopping c q q' S S⁺ → (rest : List T) → both p q ts ≡ Bad c rest → Stops c (both p' q') (Both R S) (Both R⁺ S⁺) ts rest
+  both_stops_at ts sp w kp some⁺ some hp up hq rest e =
       ⊎_elim (λ h. both_stops_first some⁺ some hp ts rest h)
-      (λ h. ⊎_elim (λ f. both_stops_second sp w kp up hq ts rest h.0 h.1 h.2 f) (λ x. absurd (cc))
+      (λ h. ⊎_elim (λ f. both_stops_second ts sp w kp up hq rest h.0 h.1 h.2 f) (λ x. absurd (cc))
       (bad {B = A × B} (q h.1) (λ b z. Got (h.0, b) z) c rest h.3))
       (bad {B = A × B} (p ts) (λ a mid. and_then (q mid) (λ b z. Got (a, b) z)) c rest e)
+
+  pub both_stops : Sound F p R → Within R R' → Complete F p' R' → Some_word S⁺ → Some_word S → Stopping c p p' R R⁺ → Within R R⁺ → Stopping c q q' S S⁺ → Stopping c (both p q) (both p' q') (Both R S) (Both R⁺ S⁺)
+  both_stops sp w kp some⁺ some hp up hq ts rest e = both_stops_at ts (sp ts) w kp some⁺ some hp up hq rest e
 
 -- ---- what is made of a phrase
 
@@ -177,7 +185,7 @@ module _ {T A B : Type 0} (f : A → B) (F : Option T → Bool) (p p' : Reader T
   made_complete kp u b rest r h =
       ap (λ o. and_then o (λ a z. Got (f a) z)) (kp u r.0 rest r.1 h) ∙ ap (λ v. Got v rest) (sym r.2)
 
-  pub made_stops : (c : Fault) → Stopping c p p' R R⁺ → Stopping c (made f p) (made f p') (Made f R) (Made f R⁺)
+  pub made_stops : (c : GrammarFault) → Stopping c p p' R R⁺ → Stopping c (made f p) (made f p') (Made f R) (Made f R⁺)
   made_stops c hp ts rest e =
       ⊎_elim (λ h. let s = hp ts rest h in
       record {
@@ -211,11 +219,11 @@ module _ {T A : Type 0} (test : Option T → Bool) (F : Option T → Bool) (p p'
       ⊎_elim (λ h. ap (λ b. cond b (p (u ++ rest)) (q (u ++ rest))) (br u a rest h f) ∙ kp u a rest h f)
       (λ h. ap (λ b. cond b (p (u ++ rest)) (q (u ++ rest))) (bs u a rest h f) ∙ kq u a rest h f) r
 
-  either_again : (b : Bool) (c : Fault) (seen rest rest' : List T) → test (first (seen ++ rest)) ≡ b → first rest' ≡ first rest → cond b (p' (seen ++ rest')) (q' (seen ++ rest')) ≡ Bad c rest' → either test p' q' (seen ++ rest') ≡ Bad c rest'
+  either_again : (b : Bool) (c : GrammarFault) (seen rest rest' : List T) → test (first (seen ++ rest)) ≡ b → first rest' ≡ first rest → cond b (p' (seen ++ rest')) (q' (seen ++ rest')) ≡ Bad c rest' → either test p' q' (seen ++ rest') ≡ Bad c rest'
   either_again b c seen rest rest' t same e =
       ap (λ x. cond x (p' (seen ++ rest')) (q' (seen ++ rest'))) (ap test (first_same seen rest rest' same) ∙ t) ∙ e
 
-  pub either_stops : (c : Fault) → Stopping c p p' R R⁺ → Stopping c q q' S S⁺ → Stopping c (either test p q) (either test p' q') (Either R S) (Either R⁺ S⁺)
+  pub either_stops : (c : GrammarFault) → Stopping c p p' R R⁺ → Stopping c q q' S S⁺ → Stopping c (either test p q) (either test p' q') (Either R S) (Either R⁺ S⁺)
   either_stops c hp hq ts rest e =
       ⊎_elim
       (λ h. let s = hp ts rest h.1 in
@@ -247,7 +255,7 @@ either_within R R' S S' f g u a r = ⊎_elim (λ h. inl (f u a h)) (λ h. inr (g
 
 -- ---- one token, where it is missing
 
-one_again : {T : Type 0} (passes : T → Bool) (c : Fault) (ts rest rest' : List T) → one passes ts ≡ Bad c rest → first rest' ≡ first ts → one passes rest' ≡ Bad c rest'
+pub one_again : {T : Type 0} (passes : T → Bool) (c : GrammarFault) (ts rest rest' : List T) → one passes ts ≡ Bad c rest → first rest' ≡ first ts → one passes rest' ≡ Bad c rest'
 one_again passes c [] rest [] e same = let f : Syntax ≡ c = cc in ap (λ x. Bad x []) f
 one_again passes c [] rest (b ∷ r) e same = absurd (cc)
 one_again passes c (a ∷ ts) rest [] e same = absurd (cc)
@@ -257,15 +265,15 @@ one_again passes c (a ∷ ts) rest (b ∷ r) e same =
     ap (λ x. cond x (Got b r) (Bad Syntax (b ∷ r))) (ap passes f ∙ h.0) ∙ ap (λ x. Bad x (b ∷ r)) k)
     (chosen (passes a) (Got a ts) (Bad Syntax (a ∷ ts)) (Bad c rest) e)
 
-one_whole : {T : Type 0} (passes : T → Bool) (c : Fault) (ts rest : List T) → one passes ts ≡ Bad c rest → ts ≡ rest
+pub one_whole : {T : Type 0} (passes : T → Bool) (c : GrammarFault) (ts rest : List T) → one passes ts ≡ Bad c rest → ts ≡ rest
 one_whole passes c [] rest e = cc
 one_whole passes c (a ∷ ts) rest e = ⊎_elim (λ h. absurd (cc)) (λ h. cc) (chosen (passes a) (Got a ts) (Bad Syntax (a ∷ ts)) (Bad c rest) e)
 
-not_deep : {T X : Type 0} (passes : T → Bool) (c : Fault) (ts rest : List T) → one passes ts ≡ Bad c rest → c ≡ TooDeep → X
+pub not_deep : {T X : Type 0} (passes : T → Bool) (c : GrammarFault) (ts rest : List T) → one passes ts ≡ Bad c rest → c ≡ TooDeep → X
 not_deep passes c [] rest e k = absurd (cc)
 not_deep passes c (a ∷ ts) rest e k = absurd (⊎_elim (λ h. cc) (λ h. cc) (chosen (passes a) (Got a ts) (Bad Syntax (a ∷ ts)) (Bad c rest) e))
 
-pub one_stops : {T : Type 0} (c : Fault) (passes : T → Bool) (t : T) → passes t ≡ true → Stopping c (one passes) (one passes) (One passes) (One passes)
+pub one_stops : {T : Type 0} (c : GrammarFault) (passes : T → Bool) (t : T) → passes t ≡ true → Stopping c (one passes) (one passes) (One passes) (One passes)
 one_stops c passes t is ts rest e =
     record {
       seen = [];
@@ -357,7 +365,7 @@ module _ {T A : Type 0} (test F : Option T → Bool) (p p' : Reader T A) (R R' R
       ap (many_by (suc n) test p) regroup ∙ turn n (m.0 ++ (m.1 ++ rest)) a (m.1 ++ rest) others rest t read others_read
 
   -- a list stops where one of its members does
-  record ListStops (c : Fault) (ts rest : List T) : Type 0 where
+  record ListStops (c : GrammarFault) (ts rest : List T) : Type 0 where
     seen : List T
     split : ts ≡ seen ++ rest
     more : List T
@@ -366,15 +374,15 @@ module _ {T A : Type 0} (test F : Option T → Bool) (p p' : Reader T A) (R R' R
     deeper : c ≡ TooDeep → Deeper (Many R⁺) seen rest
     again : (n : ℕ) (rest' : List T) → length (seen ++ rest') ≤ n → first rest' ≡ first rest → many_by n test p' (seen ++ rest') ≡ Bad c rest'
 
-  bad_here : (c : Fault) (n : ℕ) (x r : List T) → length x ≤ n → test (first x) ≡ true → p' x ≡ Bad c r → many_by n test p' x ≡ Bad c r
+  bad_here : (c : GrammarFault) (n : ℕ) (x r : List T) → length x ≤ n → test (first x) ≡ true → p' x ≡ Bad c r → many_by n test p' x ≡ Bad c r
   bad_here c zero x r l t e = absurd (no_more x l t)
   bad_here c (suc n) x r l t e = rw (t) (rw (e) refl)
 
-  bad_later : (c : Fault) (n : ℕ) (x : List T) (a : A) (mid r : List T) → length x ≤ n → (u : List T) → 1 ≤ length u → x ≡ u ++ mid → test (first x) ≡ true → p' x ≡ Got a mid → ((m : ℕ) → length mid ≤ m → many_by m test p' mid ≡ Bad c r) → many_by n test p' x ≡ Bad c r
+  bad_later : (c : GrammarFault) (n : ℕ) (x : List T) (a : A) (mid r : List T) → length x ≤ n → (u : List T) → 1 ≤ length u → x ≡ u ++ mid → test (first x) ≡ true → p' x ≡ Got a mid → ((m : ℕ) → length mid ≤ m → many_by m test p' mid ≡ Bad c r) → many_by n test p' x ≡ Bad c r
   bad_later c zero x a mid r l u k d t e h = absurd (no_more x l t)
   bad_later c (suc n) x a mid r l u k d t e h = rw (t) (rw (e) (rw (h n (shorter u mid x k d n l)) refl))
 
-  stops_here : (c : Fault) (ts rest : List T) → test (first ts) ≡ true → Stops c p' R R⁺ ts rest → ListStops c ts rest
+  stops_here : (c : GrammarFault) (ts rest : List T) → test (first ts) ≡ true → Stops c p' R R⁺ ts rest → ListStops c ts rest
   stops_here c ts rest t s =
       record {
         seen = s.seen;
@@ -386,7 +394,7 @@ module _ {T A : Type 0} (test F : Option T → Bool) (p p' : Reader T A) (R R' R
         again = λ n rest' l same. bad_here c n (s.seen ++ rest') rest' l (ap test (first_same s.seen rest rest' same ∙ ap first (sym s.split)) ∙ t) (s.again rest' same);
       }
 
-  stops_later : (c : Fault) (ts rest : List T) (u : List T) (a : A) (mid : List T) → test (first ts) ≡ true → 1 ≤ length u → ts ≡ u ++ mid → R u a → F (first mid) ≡ true → Within R R' → Complete F p' R' → Within R R⁺ → ListStops c mid rest → ListStops c ts rest
+  stops_later : (c : GrammarFault) (ts rest : List T) (u : List T) (a : A) (mid : List T) → test (first ts) ≡ true → 1 ≤ length u → ts ≡ u ++ mid → R u a → F (first mid) ≡ true → Within R R' → Complete F p' R' → Within R R⁺ → ListStops c mid rest → ListStops c ts rest
   stops_later c ts rest u a mid t k d ra f w kp up s =
       let split : ts ≡ (u ++ s.seen) ++ rest = d ∙ ap (λ z. u ++ z) s.split ∙ sym (append_assoc u s.seen rest) in
       record {
@@ -404,7 +412,7 @@ module _ {T A : Type 0} (test F : Option T → Bool) (p p' : Reader T A) (R R' R
             ap (many_by n test p') regroup ∙ bad_later c n (u ++ (s.seen ++ rest')) a (s.seen ++ rest') rest' (subst (λ z. length z ≤ n) regroup l) u k refl tested read (λ m h. s.again m rest' h same);
       }
 
-  list_stops : (c : Fault) → Begins test true (λ _. true) R → Sound F p R → Within R R' → Complete F p' R' → Within R R⁺ → Stopping c p p' R R⁺ → (n : ℕ) (ts rest : List T) → many_by n test p ts ≡ Bad c rest → ListStops c ts rest
+  list_stops : (c : GrammarFault) → Begins test true (λ _. true) R → Sound F p R → Within R R' → Complete F p' R' → Within R R⁺ → Stopping c p p' R R⁺ → (n : ℕ) (ts rest : List T) → many_by n test p ts ≡ Bad c rest → ListStops c ts rest
   list_stops c b sp w kp up hp zero ts rest e = absurd (cc)
   list_stops c b sp w kp up hp (suc n) ts rest e =
       ⊎_elim
@@ -418,7 +426,7 @@ module _ {T A : Type 0} (test F : Option T → Bool) (p p' : Reader T A) (R R' R
       (λ h. absurd (cc))
       (chosen (test (first ts)) (and_then {B = List A} (p ts) (λ a mid. and_then (many_by n test p mid) (λ others z. Got (a ∷ others) z))) (Got [] ts) (Bad c rest) e)
 
-  pub many_stops : (c : Fault) → Begins test true (λ _. true) R → Sound F p R → Within R R' → Complete F p' R' → Within R R⁺ → Stopping c p p' R R⁺ → Stopping c (many test p) (many test p') (Many R) (Many R⁺)
+  pub many_stops : (c : GrammarFault) → Begins test true (λ _. true) R → Sound F p R → Within R R' → Complete F p' R' → Within R R⁺ → Stopping c p p' R R⁺ → Stopping c (many test p) (many test p') (Many R) (Many R⁺)
   many_stops c b sp w kp up hp ts rest e =
       let s = list_stops c b sp w kp up hp (length ts) ts rest e in
       record { seen = s.seen; split = s.split; more = s.more; value = s.value; alive = s.alive; deeper = s.deeper; again = λ rest' same. s.again (length (s.seen ++ rest')) rest' (omega arith) same }

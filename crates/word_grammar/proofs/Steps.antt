@@ -1,8 +1,8 @@
 -- A reader with its phrase, at one number of levels and at two.
 use Rattle.std.proofs.Common.{◌≡◌, ℕ, suc, ◌≤◌, Bool, true, false, cond, eqb, List, [], ◌∷◌, ◌++◌, length, Option, Some, None, refl, sym, ap, ◌∙◌, inl, inr, ◌⊎◌, ⊎_elim, arith, length-append}
 use Rattle.std.proofs.lemmas.Bool.{eqb-true}
-use Rattle.word_grammar.specs.declared.fault.Fault.{Fault}
-use Rattle.word_grammar.specs.declared.fault.Fault.TheVariants.{Syntax, TooDeep}
+use Rattle.word_grammar.specs.declared.fault.GrammarFault.{GrammarFault}
+use Rattle.word_grammar.specs.declared.fault.GrammarFault.TheVariants.{Syntax, TooDeep}
 use Rattle.word_grammar.specs.Phrases.{Phrase, One, Both, Either, Made, Many}
 use Rattle.word_grammar.specs.Readers.{Read, Got, Bad, Reader, first, sees, one, deep, both, made, either, many}
 use Rattle.word_grammar.proofs.Parts.{Sound, Complete, Stopping, Deeper, Within, Leads, Begins, Some_word, Ends, chosen, first_same, one_sound, one_complete, one_stops, both_sound, both_complete, both_within, both_stops, made_sound, made_complete, made_stops, made_within, either_sound, either_complete, either_stops, either_within, many_sound, many_complete, many_stops, many_within, follows}
@@ -61,7 +61,7 @@ exact_chain test F p q R S end on b x y = record {
 
 -- ---- two numbers of levels
 
-pub record Step {T A : Type 0} (c : Fault) (F : Option T → Bool) (p p' : Reader T A) (R R' R⁺ : Phrase T A) : Type 0 where
+pub record Step {T A : Type 0} (c : GrammarFault) (F : Option T → Bool) (p p' : Reader T A) (R R' R⁺ : Phrase T A) : Type 0 where
   pub low : Exact F p R
   pub high : Exact F p' R'
   pub within : Within R R'
@@ -71,10 +71,10 @@ pub record Step {T A : Type 0} (c : Fault) (F : Option T → Bool) (p p' : Reade
 some_up : {T A : Type 0} (R R⁺ : Phrase T A) → Within R R⁺ → Some_word R → Some_word R⁺
 some_up R R⁺ w s = (s.0, s.1, w s.0 s.1 s.2)
 
-pub step_one : {T : Type 0} (c : Fault) (passes : T → Bool) (t : T) → passes t ≡ true → Step c any (one passes) (one passes) (One passes) (One passes) (One passes)
+pub step_one : {T : Type 0} (c : GrammarFault) (passes : T → Bool) (t : T) → passes t ≡ true → Step c any (one passes) (one passes) (One passes) (One passes) (One passes)
 step_one c passes t is = record { low = exact_one passes t is; high = exact_one passes t is; within = λ u a r. r; up = λ u a r. r; stops = one_stops c passes t is }
 
-module _ {T A B : Type 0} {c : Fault} {F G : Option T → Bool} {p p' : Reader T A} {q q' : Reader T B} {R R' R⁺ : Phrase T A} {S S' S⁺ : Phrase T B} where
+module _ {T A B : Type 0} {c : GrammarFault} {F G : Option T → Bool} {p p' : Reader T A} {q q' : Reader T B} {R R' R⁺ : Phrase T A} {S S' S⁺ : Phrase T B} where
   pub step_both : Leads F G S → Leads F G S' → Step c F p p' R R' R⁺ → Step c G q q' S S' S⁺ → Step c G (both p q) (both p' q') (Both R S) (Both R' S') (Both R⁺ S⁺)
   step_both l l' x y = record {
     low = exact_both F G p q R S l x.low y.low;
@@ -84,7 +84,7 @@ module _ {T A B : Type 0} {c : Fault} {F G : Option T → Bool} {p p' : Reader T
     stops = both_stops F c p p' q q' R R' R⁺ S S⁺ x.low.sound x.within x.high.complete (some_up S S⁺ y.up y.low.some) y.low.some x.stops x.up y.stops;
   }
 
-module _ {T A B : Type 0} {c : Fault} {F : Option T → Bool} {p p' : Reader T A} {R R' R⁺ : Phrase T A} where
+module _ {T A B : Type 0} {c : GrammarFault} {F : Option T → Bool} {p p' : Reader T A} {R R' R⁺ : Phrase T A} where
   pub step_made : (f : A → B) → Step c F p p' R R' R⁺ → Step c F (made f p) (made f p') (Made f R) (Made f R') (Made f R⁺)
   step_made f x = record {
     low = exact_made f F p R x.low;
@@ -94,7 +94,7 @@ module _ {T A B : Type 0} {c : Fault} {F : Option T → Bool} {p p' : Reader T A
     stops = made_stops f F p p' R R⁺ c x.stops;
   }
 
-module _ {T A : Type 0} {c : Fault} {F : Option T → Bool} {p p' q q' : Reader T A} {R R' R⁺ S S' S⁺ : Phrase T A} where
+module _ {T A : Type 0} {c : GrammarFault} {F : Option T → Bool} {p p' q q' : Reader T A} {R R' R⁺ S S' S⁺ : Phrase T A} where
   pub step_either : (test : Option T → Bool) → Begins test true F R → Begins test true F R' → Begins test false F S → Begins test false F S' → Step c F p p' R R' R⁺ → Step c F q q' S S' S⁺ → Step c F (either test p q) (either test p' q') (Either R S) (Either R' S') (Either R⁺ S⁺)
   step_either test b b' d d' x y = record {
     low = exact_either test F p q R S b d x.low y.low;
@@ -104,7 +104,7 @@ module _ {T A : Type 0} {c : Fault} {F : Option T → Bool} {p p' q q' : Reader 
     stops = either_stops test F p p' q q' R R⁺ S S⁺ c x.stops y.stops;
   }
 
-module _ {T A : Type 0} {c : Fault} {p p' : Reader T A} {R R' R⁺ : Phrase T A} where
+module _ {T A : Type 0} {c : GrammarFault} {p p' : Reader T A} {R R' R⁺ : Phrase T A} where
   pub step_many : (test : Option T → Bool) → test None ≡ false → Begins test true any R → Begins test true any R' → Step c any p p' R R' R⁺ → Step c (Ends any test) (many test p) (many test p') (Many R) (Many R') (Many R⁺)
   step_many test end b b' x = record {
     low = exact_many test p R end b x.low;
@@ -114,7 +114,7 @@ module _ {T A : Type 0} {c : Fault} {p p' : Reader T A} {R R' R⁺ : Phrase T A}
     stops = many_stops test any p p' R R' R⁺ end (λ o h. refl) c b x.low.sound x.within x.high.complete x.up x.stops;
   }
 
-module _ {T A B : Type 0} {c : Fault} {F : Option T → Bool} {p p' : Reader T A} {q q' : Reader T B} {R R' R⁺ : Phrase T A} {S S' S⁺ : Phrase T B} where
+module _ {T A B : Type 0} {c : GrammarFault} {F : Option T → Bool} {p p' : Reader T A} {q q' : Reader T B} {R R' R⁺ : Phrase T A} {S S' S⁺ : Phrase T B} where
   pub step_chain : (test : Option T → Bool) → test None ≡ false → ((o : Option T) → test o ≡ true → F o ≡ true) → Begins test true any S → Begins test true any S' → Step c F p p' R R' R⁺ → Step c F q q' S S' S⁺ → Step c (Ends F test) (both p (many test q)) (both p' (many test q')) (Both R (Many S)) (Both R' (Many S')) (Both R⁺ (Many S⁺))
   step_chain test end on b b' x y = record {
     low = exact_chain test F p q R S end on b x.low y.low;
@@ -127,7 +127,7 @@ module _ {T A B : Type 0} {c : Fault} {F : Option T → Bool} {p p' : Reader T A
 
 -- ---- parts that may not be opened
 
-shut_again : {T A : Type 0} (c : Fault) (test : Option T → Bool) (p' q' : Reader T A) (ts rest rest' : List T) → ◌≡◌ {A = Read T A} (Bad TooDeep ts) (Bad c rest) → test (first ts) ≡ true → (c ≡ TooDeep → (x : List T) → p' x ≡ Bad TooDeep x) → first rest' ≡ first rest → either test p' q' rest' ≡ Bad c rest'
+shut_again : {T A : Type 0} (c : GrammarFault) (test : Option T → Bool) (p' q' : Reader T A) (ts rest rest' : List T) → ◌≡◌ {A = Read T A} (Bad TooDeep ts) (Bad c rest) → test (first ts) ≡ true → (c ≡ TooDeep → (x : List T) → p' x ≡ Bad TooDeep x) → first rest' ≡ first rest → either test p' q' rest' ≡ Bad c rest'
 shut_again {T = T} {A = A} c test p' q' ts rest rest' e t shut same =
     let k : c ≡ TooDeep = cc in
     let w : ts ≡ rest = cc in
@@ -140,7 +140,7 @@ next_token test R⁺ (t ∷ ts) rest end w h opens =
     let x = opens t h in
     record { token = t; after = ts; is = sym w; more = x.0; value = x.1; alive = x.2 }
 
-module _ {T A : Type 0} (c : Fault) (test : Option T → Bool) (q q' : Reader T A) (P⁺ S S⁺ : Phrase T A) (end : test None ≡ false) (opens : c ≡ TooDeep → (t : T) → test (Some t) ≡ true → (more : List T) × (a : A) × P⁺ (t ∷ more) a) where
+module _ {T A : Type 0} (c : GrammarFault) (test : Option T → Bool) (q q' : Reader T A) (P⁺ S S⁺ : Phrase T A) (end : test None ≡ false) (opens : c ≡ TooDeep → (t : T) → test (Some t) ≡ true → (more : List T) × (a : A) × P⁺ (t ∷ more) a) where
   shut_stops : (p' : Reader T A) → (c ≡ TooDeep → (x : List T) → p' x ≡ Bad TooDeep x) → Some_word S → Stopping c q q' S S⁺ → Stopping c (either test deep q) (either test p' q') S (Either P⁺ S⁺)
   shut_stops p' shut some hq ts rest e =
       ⊎_elim
@@ -167,7 +167,7 @@ module _ {T A : Type 0} (c : Fault) (test : Option T → Bool) (q q' : Reader T 
       })
       (chosen (test (first ts)) (Bad TooDeep ts) (q ts) (Bad c rest) e)
 
-module _ {T A : Type 0} {c : Fault} {F : Option T → Bool} {q q' : Reader T A} {S S' S⁺ : Phrase T A} (test : Option T → Bool) (P⁺ : Phrase T A) (end : test None ≡ false) (opens : c ≡ TooDeep → (t : T) → test (Some t) ≡ true → (more : List T) × (a : A) × P⁺ (t ∷ more) a) where
+module _ {T A : Type 0} {c : GrammarFault} {F : Option T → Bool} {q q' : Reader T A} {S S' S⁺ : Phrase T A} (test : Option T → Bool) (P⁺ : Phrase T A) (end : test None ≡ false) (opens : c ≡ TooDeep → (t : T) → test (Some t) ≡ true → (more : List T) × (a : A) × P⁺ (t ∷ more) a) where
   pub step_shut : Begins test false F S → Begins test false F S' → Step c F q q' S S' S⁺ → Step c F (either test deep q) (either test deep q') S S' (Either P⁺ S⁺)
   step_shut b b' y = record {
     low = exact_shut test F q S b y.low;
@@ -222,19 +222,19 @@ leads_by Q R F G s h v b rest r g = let x = s v b r in ap (λ z. F (first (z ++ 
 -- ---- levels
 
 -- With the same number of levels a fault is the same. With more, a fault of syntax is.
-abbrev pub Levels : Fault → ℕ → ℕ → Type 0
+abbrev pub Levels : GrammarFault → ℕ → ℕ → Type 0
 Levels Syntax d d' = d ≤ d'
 Levels TooDeep d d' = d' ≡ d
 
-pub levels_down : (c : Fault) (d d' : ℕ) → Levels c (suc d) (suc d') → Levels c d d'
+pub levels_down : (c : GrammarFault) (d d' : ℕ) → Levels c (suc d) (suc d') → Levels c d d'
 levels_down Syntax d d' h = omega arith
 levels_down TooDeep d d' h = omega arith
 
-pub no_fewer : (c : Fault) (d : ℕ) → Levels c (suc d) 0 → ⊥
+pub no_fewer : (c : GrammarFault) (d : ℕ) → Levels c (suc d) 0 → ⊥
 no_fewer Syntax d h = omega arith
 no_fewer TooDeep d h = omega arith
 
-pub no_more_deep : (c : Fault) (d : ℕ) → Levels c 0 (suc d) → c ≡ TooDeep → ⊥
+pub no_more_deep : (c : GrammarFault) (d : ℕ) → Levels c 0 (suc d) → c ≡ TooDeep → ⊥
 no_more_deep Syntax d h e = cc
 no_more_deep TooDeep d h e = omega arith
 

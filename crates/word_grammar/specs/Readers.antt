@@ -1,12 +1,12 @@
 -- Readers of phrases: what stands at the front of a list of tokens, or the first fault. One reader for each form of a phrase.
 use Rattle.std.specs.Prelude.{◌++◌, ℕ, zero, suc, Bool, false, if◌then◌else◌, List, [], ◌∷◌, Option, Some, None, length}
-use Rattle.word_grammar.specs.declared.fault.Fault.{Fault}
-use Rattle.word_grammar.specs.declared.fault.Fault.TheVariants.{Syntax, TooDeep}
+use Rattle.word_grammar.specs.declared.fault.GrammarFault.{GrammarFault}
+use Rattle.word_grammar.specs.declared.fault.GrammarFault.TheVariants.{Syntax, TooDeep}
 
 -- what was read with the tokens after it, or a fault with the tokens from the fault on
 pub data Read (T A : Type 0) : Type 0 where
   Got : A → List T → Read T A
-  Bad : Fault → List T → Read T A
+  Bad : GrammarFault → List T → Read T A
 
 -- A reader answers for each list of tokens.
 abbrev pub Reader : Type 0 → Type 0 → Type 0

@@ -2,7 +2,7 @@
 
 /// The fault at a token, or at the end of the text.
 #[derive(Clone, Copy, Debug, PartialEq, Eq)]
-pub enum Fault {
+pub enum GrammarFault {
     /// No word of the grammar goes on so, or the text ends too early.
     Syntax,
     /// A part opens deeper than the limit allows; with more levels some word goes on so.

@@ -11,7 +11,7 @@
 //! - complete: a phrase is read wherever what follows may follow it (`Complete`), so its value is the only one;
 //! - stopping: the tokens before a fault begin a phrase, and with the token at fault they begin none (`Stopping`).
 //!
-//! `proofs/Steps.antt` and `proofs/Options.antt` hold the three together, one law `step_*` for each form; `proofs/Texts.antt` draws
+//! `proofs/Steps.antt`, `proofs/Options.antt` and `proofs/Lists.antt` hold the three together, one law `step_*` for each form; `proofs/Texts.antt` draws
 //! from them that a text has one value or one first fault (`specs/Faults.antt`); `proofs/Loops.antt` is for loops that read a list.
 //! The token type is any type.
 #![tactic(auto)]
@@ -19,4 +19,4 @@
 pub mod fault;
 pub mod laws;
 
-pub use fault::Fault;
+pub use fault::GrammarFault;

@@ -4,7 +4,7 @@ ghost use Rattle.kernel_parser.specs.Names as spec;
 ghost use Rattle.kernel_parser.specs.Names.{known_in, meaning};
 ghost use Rattle.kernel_parser.specs.Scopes.{EndsAt};
 
-use crate::names::fault::Fault;
+use crate::names::fault::NameRule;
 use crate::names::lookup::name_of;
 use crate::parse_end::ParseEnd;
 use crate::raw::{RawDecl, RawSize};
@@ -21,7 +21,7 @@ fn sizes(alloc: Global, raw: &[RawSize]) -> Result<Items<u16>, ParseEnd>
     let mut sizes = Items::new(alloc);
     for size in raw {
         if size.value < 1 || size.value > 64 {
-            return Err(Fault::BadSize.at(size.at));
+            return Err(NameRule::BadSize.at(size.at));
         }
         sizes.push(size.value as u16)?;
     }
@@ -42,7 +42,7 @@ fn declare(
     let at = raw.name.from;
     let known = decls.get_index_of(&name);
     if known.is_some() {
-        return Err(Fault::Twice.at(at));
+        return Err(NameRule::Twice.at(at));
     }
     let sizes = sizes(alloc, raw.sizes.as_slice())?;
     decls.insert(

@@ -6,7 +6,7 @@ use crate::parse_end::ParseEnd;
 
 /// A rule of names that is broken.
 #[derive(Clone, Copy)]
-pub enum Fault {
+pub enum NameRule {
     /// The name is not known where it stands.
     Unknown,
     /// The name is known already.
@@ -19,17 +19,17 @@ pub enum Fault {
     BadSize,
 }
 
-impl Fault {
+impl NameRule {
     /// Reading ends with this fault at the place.
     pub fn at(self, at: u32) -> ParseEnd
         ensures { result ≡ ParseEnd.Fault (code_of self) at }
     {
         let code = match self {
-            Fault::Unknown => 4,
-            Fault::Twice => 5,
-            Fault::Indices => 6,
-            Fault::NotWritable => 9,
-            Fault::BadSize => 16,
+            NameRule::Unknown => 4,
+            NameRule::Twice => 5,
+            NameRule::Indices => 6,
+            NameRule::NotWritable => 9,
+            NameRule::BadSize => 16,
         };
         ParseEnd::Fault { code, at }
     }

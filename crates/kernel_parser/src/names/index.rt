@@ -1,11 +1,11 @@
-//! Resolves indices of places and bounds of loops.
+//! Resolves indices of places, bounds and steps of loops, and sides of branches.
 ghost use Rattle.std.specs.Prelude.{◌≡◌, [], map, OnOk, IfOk, IfErr};
 ghost use Rattle.kernel_ast.specs.Walk.{joined};
 ghost use Rattle.kernel_parser.specs.Names as spec;
 ghost use Rattle.kernel_parser.specs.Resolved as tree;
 ghost use Rattle.kernel_parser.specs.Scopes.{known, EndsAt};
 
-use crate::names::fault::Fault;
+use crate::names::fault::NameRule;
 use crate::names::scope::{Meaning, Scope};
 use crate::parse_end::ParseEnd;
 use crate::raw::{RawIndex, RawIndexLink, RawIndexTree, Span};
@@ -20,7 +20,7 @@ impl<'a> Scope<'a> {
     {
         match self.meaning(span)? {
             Meaning::Turn(open) => Ok(IndexTree::Turn(open)),
-            _ => Err(Fault::Unknown.at(span.from)),
+            _ => Err(NameRule::Unknown.at(span.from)),
         }
     }
 

@@ -4,7 +4,7 @@ ghost use Rattle.kernel_parser.specs.Names as spec;
 ghost use Rattle.kernel_parser.specs.Resolved as tree;
 ghost use Rattle.kernel_parser.specs.Scopes.{known, EndsAt};
 
-use crate::names::fault::Fault;
+use crate::names::fault::NameRule;
 use crate::names::scope::{Meaning, Scope};
 use crate::parse_end::ParseEnd;
 use crate::raw::RawPlace;
@@ -23,17 +23,17 @@ impl<'a> Scope<'a> {
                 if raw.indices.is_empty() {
                     Ok(Expr::Turn(open))
                 } else {
-                    Err(Fault::Indices.at(at))
+                    Err(NameRule::Indices.at(at))
                 }
             }
             Meaning::Element(decl) => {
                 if !self.has_sizes(decl, raw.indices.len()) {
-                    return Err(Fault::Indices.at(at));
+                    return Err(NameRule::Indices.at(at));
                 }
                 let indices = self.indices(raw.indices.as_slice())?;
                 Ok(Expr::Cell(Place { decl, indices, at }))
             }
-            Meaning::Unknown => Err(Fault::Unknown.at(at)),
+            Meaning::Unknown => Err(NameRule::Unknown.at(at)),
         }
     }
 
@@ -45,18 +45,18 @@ impl<'a> Scope<'a> {
     {
         let at = raw.name.from;
         match self.meaning(raw.name)? {
-            Meaning::Turn(_) => Err(Fault::NotWritable.at(at)),
+            Meaning::Turn(_) => Err(NameRule::NotWritable.at(at)),
             Meaning::Element(decl) => {
                 if !self.is_writable(decl) {
-                    return Err(Fault::NotWritable.at(at));
+                    return Err(NameRule::NotWritable.at(at));
                 }
                 if !self.has_sizes(decl, raw.indices.len()) {
-                    return Err(Fault::Indices.at(at));
+                    return Err(NameRule::Indices.at(at));
                 }
                 let indices = self.indices(raw.indices.as_slice())?;
                 Ok(Place { decl, indices, at })
             }
-            Meaning::Unknown => Err(Fault::Unknown.at(at)),
+            Meaning::Unknown => Err(NameRule::Unknown.at(at)),
         }
     }
 }

@@ -3,29 +3,72 @@ ghost use Rattle.std.specs.Prelude.{◌≡◌, ◌≤◌, true, length, [], OnOk
 ghost use Rattle.kernel_parser.specs.Names as spec;
 ghost use Rattle.kernel_parser.specs.RawFits.{stmt_fits, body_fits};
 ghost use Rattle.kernel_parser.specs.Resolved as tree;
-ghost use Rattle.kernel_parser.specs.Scopes.{known_under, entries, EndsAt};
+ghost use Rattle.kernel_parser.specs.Scopes.{known, known_under, entries, EndsAt};
 
-use crate::names::fault::Fault;
+use crate::names::fault::NameRule;
 use crate::names::lookup::name_of;
 use crate::names::scope::{Meaning, Scope, Table};
 use crate::parse_end::ParseEnd;
-use crate::raw::{RawExpr, RawLoop, RawPlace, RawStmt};
+use crate::raw::{RawBranch, RawExpr, RawIndex, RawLoop, RawPlace, RawStmt};
 use kernel_ast::{Index, Name, Stmt};
 use sqlite_items::Items;
 
+/// The bounds and the step of a loop.
+#[derive(Drop)]
+struct Header {
+    from: Index,
+    to: Index,
+    by: Option<Index>,
+}
+
+impl<'a> Scope<'a> {
+    /// Resolves a step, if one is written.
+    fn step(&self, raw: &Option<RawIndex>) -> Result<Option<Index>, ParseEnd>
+        ensures faultless { OnOk result (spec.step_faults (known self.now) raw.now ≡ []) }
+        ensures tree { IfOk result (λ s. s ≡ tree.step_of (known self.now) raw.now) }
+        ensures fault { IfErr result (EndsAt (spec.step_faults (known self.now) raw.now)) }
+    {
+        match raw {
+            Some(by) => Ok(Some(self.index(by)?)),
+            None => Ok(None),
+        }
+    }
+}
+
 impl<'a> Table<'a> {
-    fn bounds(&self, loops: &[Name], header: &RawLoop) -> Result<(Index, Index), ParseEnd>
+    fn header(&self, loops: &[Name], header: &RawLoop) -> Result<Header, ParseEnd>
         requires { length loops.now ≤ 32 }
         ensures faultless { OnOk result (spec.header_faults (known_under self.now loops.now) header.now ≡ []) }
-        ensures from { IfOk result (λ b. b.0 ≡ tree.index_of (known_under self.now loops.now) header.now.from) }
-        ensures to { IfOk result (λ b. b.1 ≡ tree.index_of (known_under self.now loops.now) header.now.to) }
+        ensures from { IfOk result (λ h. h.from ≡ tree.index_of (known_under self.now loops.now) header.now.from) }
+        ensures to { IfOk result (λ h. h.to ≡ tree.index_of (known_under self.now loops.now) header.now.to) }
+        ensures by { IfOk result (λ h. h.by ≡ tree.step_of (known_under self.now loops.now) header.now.by) }
         ensures fault { IfErr result (EndsAt (spec.header_faults (known_under self.now loops.now) header.now)) }
     {
         let scope = Scope { table: self, loops };
         match scope.meaning(header.name)? {
-            Meaning::Unknown => Ok((scope.index(&header.from)?, scope.index(&header.to)?)),
-            _ => Err(Fault::Twice.at(header.name.from)),
+            Meaning::Unknown => {
+                let from = scope.index(&header.from)?;
+                let to = scope.index(&header.to)?;
+                let by = scope.step(&header.by)?;
+                Ok(Header { from, to, by })
+            }
+            _ => Err(NameRule::Twice.at(header.name.from)),
         }
+    }
+
+    /// The sides of a branch.
+    fn sides(&self, loops: &[Name], condition: &RawBranch) -> Result<(Index, Index), ParseEnd>
+        requires { length loops.now ≤ 32 }
+        ensures faultless { OnOk result (spec.condition_faults (known_under self.now loops.now) condition.now ≡ []) }
+        ensures left { IfOk result (λ s. s.0 ≡ tree.index_of (known_under self.now loops.now) condition.now.left) }
+        ensures right { IfOk result (λ s. s.1 ≡ tree.index_of (known_under self.now loops.now) condition.now.right) }
+        ensures fault { IfErr result (EndsAt (spec.condition_faults (known_under self.now loops.now) condition.now)) }
+    {
+        let scope = Scope { table: self, loops };
+        Ok((
+            scope.index(&condition.left)?,
+            scope.index(&condition.right)?,
+        ))
     }
 
     fn assignment(
@@ -60,15 +103,29 @@ impl<'a> Table<'a> {
         match raw {
             RawStmt::Assign(target, value) => self.assignment(loops.as_slice(), target, value),
             RawStmt::Loop(header, body) => {
-                let (from, to) = self.bounds(loops.as_slice(), header)?;
+                let Header { from, to, by } = self.header(loops.as_slice(), header)?;
                 loops.push(name_of(self.alloc, self.text, header.name)?)?;
                 let body = self.body(loops, body.as_slice())?;
                 loops.pop();
                 Ok(Stmt::Loop {
                     from,
                     to,
+                    by,
                     body,
                     at: header.at,
+                })
+            }
+            RawStmt::Branch(condition, taken, other) => {
+                let (left, right) = self.sides(loops.as_slice(), condition)?;
+                let taken = self.body(loops, taken.as_slice())?;
+                let other = self.body(loops, other.as_slice())?;
+                Ok(Stmt::Branch {
+                    left,
+                    rel: condition.rel,
+                    right,
+                    taken,
+                    other,
+                    at: condition.at,
                 })
             }
         }

@@ -1,3 +1,4 @@
+-- The kernel that is made by hand is well formed.
 use Rattle.std.proofs.Common.{rules, ◌≡◌, [], ◌∷◌, ℕ, ◌≤◌, List, true, false, refl, sym, subst, ap, ◌∙◌, arith, length, ◌&&◌}
 use Rattle.std.specs.List.{All}
 use Rattle.std.proofs.lemmas.List.Elements.{All-nil, All-cons}

@@ -1,3 +1,4 @@
+-- The weight so far is that of the parts before, up to the greatest number.
 use Rattle.std.proofs.Common.{◌≡◌, ◌+◌, ◌<◌, min, map, sum, drop}
 use Rattle.kernel_ast.specs.Weights as spec
 use Rattle.kernel_ast.proofs.weigh.+expr.Given as goal

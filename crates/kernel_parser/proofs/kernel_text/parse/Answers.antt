@@ -1,17 +1,6 @@
--- What `parse` owes `resolve`, and that the first fault of the names is that of the text.
-use Rattle.std.proofs.Common.{subst}
-use Rattle.kernel_parser.specs.Grammar.{Whole}
-use Rattle.kernel_parser.proofs.ReadKernels.{text_fits}
-use Rattle.kernel_parser.proofs.NameEnds.{ends_at_name}
+-- A text that stands for a kernel has no fault.
+use Rattle.kernel_parser.proofs.OneText.{kernel_without_fault}
 use Rattle.kernel_parser.proofs.kernel_text.parse.Goals as goal
 
-pub resolve-requires : goal.resolve-requires
-resolve-requires c =
-    let read = subst (λ ts. Whole 32 ts c.in_ok-raw.raw) c.as_slice.ensures.value c.in_ok-raw.ensures.read in
-    text_fits c.args.text.now c.in_ok-tokens.tokens.items c.in_ok-raw.raw c.if-text-gt-MAX_LENGTH.false c.in_ok-tokens.ensures.tokens read
-
-pub returns-clause-fault : goal.returns-clause-fault
-returns-clause-fault c =
-    let read = subst (λ ts. Whole 32 ts c.in_ok-raw.raw) c.as_slice.ensures.value c.in_ok-raw.ensures.read in
-    ends_at_name c.args.text.now c.in_ok-tokens.tokens.items c.in_ok-raw.raw
-    (record { short = c.if-text-gt-MAX_LENGTH.false; spelled = c.in_ok-tokens.ensures.tokens; read = read }) c.resolve.result c.resolve.ensures.fault
+pub returns-clause-faultless : goal.returns-clause-faultless
+returns-clause-faultless c = λ code at fault. kernel_without_fault c.args.text.now c.in_ok-kernel.kernel code at c.in_ok-kernel.ensures.reads fault

@@ -1,5 +1,6 @@
--- The laws are proved in proofs/OneText.antt.
+-- The laws are proved in proofs/OneText.antt and proofs/NamesInOrder.antt.
 use Rattle.kernel_parser.proofs.OneText as laws
+use Rattle.kernel_parser.proofs.NamesInOrder.{name_faults_in_order}
 use Rattle.kernel_parser.proofs.laws.kernel_or_fault.Goals as goal
 
 pub returns-clause-one_kernel : goal.returns-clause-one_kernel
@@ -16,3 +17,6 @@ returns-clause-never_both c = laws.kernel_without_fault
 
 pub returns-clause-always_one : goal.returns-clause-always_one
 returns-clause-always_one c = laws.kernel_or_fault
+
+pub returns-clause-name_order : goal.returns-clause-name_order
+returns-clause-name_order c = name_faults_in_order

@@ -1,3 +1,4 @@
+-- What the laws of grammars say of the grammar of kernels.
 use Rattle.kernel_parser.specs.Grammar.{Whole}
 use Rattle.kernel_parser.specs.Parsing.{whole}
 use Rattle.word_grammar.proofs.Texts.{only_reading, more_levels, one_fault, never_both, word_or_fault}

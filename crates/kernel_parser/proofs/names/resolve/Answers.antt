@@ -1,3 +1,4 @@
+-- The kernel is well formed, and its parts are those of the definition.
 use Rattle.std.proofs.Common.{rules, sym, subst, ◌∙◌}
 use Rattle.kernel_ast.specs.WellFormed.{IsWellFormed}
 use Rattle.kernel_parser.specs.Names.{name_faults}

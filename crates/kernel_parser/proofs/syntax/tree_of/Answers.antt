@@ -1,3 +1,4 @@
+-- What the laws of grammars say of the tree, and of the fault.
 use Rattle.kernel_parser.specs.Grammar.{Whole}
 use Rattle.kernel_parser.specs.Parsing.{whole}
 use Rattle.kernel_parser.specs.Reading.{tokens_of}

@@ -1,3 +1,4 @@
+-- What the general laws say of the reader of the small grammar.
 use Rattle.word_grammar.specs.Nested.{Part, part}
 use Rattle.word_grammar.proofs.Texts.{reads, exact_fault}
 use Rattle.word_grammar.proofs.NestedLaws.{part_step}

@@ -1,9 +1,10 @@
+-- Reading expressions ends, and goes as the readers of the grammar do.
 use Rattle.std.proofs.Common.{◌-◌, [], ◌∷◌, ◌++◌, ap, sym, ◌∙◌, subst, arith}
 use Rattle.kernel_parser.specs.declared.raw.RawLink.{roll-RawLink}
 use Rattle.kernel_parser.specs.Trees as tree
 use Rattle.kernel_parser.specs.Grammar as rule
 use Rattle.kernel_parser.specs.Parsing as spec
-use Rattle.kernel_parser.specs.Reading.{Reads, tokens_of}
+use Rattle.kernel_parser.specs.Reading.{Follows, tokens_of}
 use Rattle.word_grammar.specs.Readers.{with_front}
 use Rattle.kernel_parser.proofs.Chains.{After, after_place}
 use Rattle.kernel_parser.proofs.Turns.{links, link_less, link_turn, ranked_sound, ranked_chained, unary_leaf, unary_opened}
@@ -27,14 +28,14 @@ chain-links-preserved t c =
 pub ranked-returns-else-rank-eq0 : goal.ranked-returns-else-rank-eq0
 ranked-returns-else-rank-eq0 t c =
     let e = ranked_chained tree.link tree.chain c.args.rank (spec.unary c.args.levels) (tokens_of c.args.self.now) (omega arith) in
-    subst (λ r. Reads r c.chain.result (tokens_of c.chain.new.self)) (sym e) c.chain.ensures
+    subst (λ r. Follows r c.chain.result (tokens_of c.chain.new.self)) (sym e) c.chain.ensures
 
 pub unary-returns-then-not-sees : goal.unary-returns-then-not-sees
 unary-returns-then-not-sees t c =
     let e = unary_leaf c.args.levels (tokens_of c.args.self.now) (sym c.sees.ensures ∙ c.if-not-sees.true) in
-    subst (λ r. Reads r c.leaf.result (tokens_of c.leaf.new.self)) (sym e) c.leaf.ensures
+    subst (λ r. Follows r c.leaf.result (tokens_of c.leaf.new.self)) (sym e) c.leaf.ensures
 
 pub unary-returns-else-levels-eq0 : goal.unary-returns-else-levels-eq0
 unary-returns-else-levels-eq0 t c =
     let e = unary_opened c.args.levels (tokens_of c.args.self.now) (omega arith) (sym c.sees.ensures ∙ c.if-not-sees.false) in
-    subst (λ r. Reads r c.opened.result (tokens_of c.opened.new.self)) (sym e) c.opened.ensures
+    subst (λ r. Follows r c.opened.result (tokens_of c.opened.new.self)) (sym e) c.opened.ensures

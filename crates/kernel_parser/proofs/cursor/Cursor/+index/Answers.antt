@@ -1,9 +1,10 @@
+-- Reading indices ends, and goes as the readers of the grammar do.
 use Rattle.std.proofs.Common.{◌-◌, [], ◌∷◌, ◌++◌, ap, sym, ◌∙◌, subst, arith}
 use Rattle.kernel_parser.specs.declared.raw.RawIndexLink.{roll-RawIndexLink}
 use Rattle.kernel_parser.specs.Trees as tree
 use Rattle.kernel_parser.specs.Grammar as rule
 use Rattle.kernel_parser.specs.Parsing as spec
-use Rattle.kernel_parser.specs.Reading.{Reads, tokens_of}
+use Rattle.kernel_parser.specs.Reading.{Follows, tokens_of}
 use Rattle.word_grammar.specs.Readers.{with_front}
 use Rattle.word_grammar.proofs.Steps.{any}
 use Rattle.kernel_parser.proofs.Chains.{After}
@@ -28,14 +29,14 @@ index_chain-links-preserved t c =
 pub index_ranked-returns-else-rank-eq0 : goal.index_ranked-returns-else-rank-eq0
 index_ranked-returns-else-rank-eq0 t c =
     let e = ranked_chained tree.index_link tree.index_chain c.args.rank (spec.index_unary c.args.levels) (tokens_of c.args.self.now) (omega arith) in
-    subst (λ r. Reads r c.index_chain.result (tokens_of c.index_chain.new.self)) (sym e) c.index_chain.ensures
+    subst (λ r. Follows r c.index_chain.result (tokens_of c.index_chain.new.self)) (sym e) c.index_chain.ensures
 
 pub index_unary-returns-then-not-sees : goal.index_unary-returns-then-not-sees
 index_unary-returns-then-not-sees t c =
     let e = index_unary_leaf c.args.levels (tokens_of c.args.self.now) (sym c.sees.ensures ∙ c.if-not-sees.true) in
-    subst (λ r. Reads r c.index_leaf.result (tokens_of c.index_leaf.new.self)) (sym e) c.index_leaf.ensures
+    subst (λ r. Follows r c.index_leaf.result (tokens_of c.index_leaf.new.self)) (sym e) c.index_leaf.ensures
 
 pub index_unary-returns-else-levels-eq0 : goal.index_unary-returns-else-levels-eq0
 index_unary-returns-else-levels-eq0 t c =
     let e = index_unary_opened c.args.levels (tokens_of c.args.self.now) (omega arith) (sym c.sees.ensures ∙ c.if-not-sees.false) in
-    subst (λ r. Reads r c.index_opened.result (tokens_of c.index_opened.new.self)) (sym e) c.index_opened.ensures
+    subst (λ r. Follows r c.index_opened.result (tokens_of c.index_opened.new.self)) (sym e) c.index_opened.ensures

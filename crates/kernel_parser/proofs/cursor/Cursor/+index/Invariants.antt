@@ -1,3 +1,4 @@
+-- The loop over the operators of a chain, as its reader goes.
 use Rattle.std.proofs.Common.{◌≡◌, ◌-◌, ◌+◌, ◌*◌, length}
 use Rattle.kernel_parser.specs.Trees as tree
 use Rattle.kernel_parser.specs.Parsing as spec

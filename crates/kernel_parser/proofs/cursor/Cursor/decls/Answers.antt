@@ -1,3 +1,4 @@
+-- Reading declarations ends, and goes as the reader of the grammar does.
 use Rattle.std.proofs.Common.{refl, sym, ap, ◌∙◌}
 use Rattle.kernel_parser.specs.Tokens as token
 use Rattle.kernel_parser.specs.Parsing as spec

@@ -1,3 +1,4 @@
+-- The loop over declarations, as its reader goes.
 use Rattle.std.proofs.Common.{◌≡◌, length}
 use Rattle.kernel_parser.specs.Tokens as token
 use Rattle.kernel_parser.specs.Parsing as spec

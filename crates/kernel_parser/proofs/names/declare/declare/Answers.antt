@@ -1,3 +1,4 @@
+-- One declaration: its name and its sizes.
 use Rattle.std.proofs.Common.{rules, ◌++◌, ◌∷◌, [], map, ap, subst, ◌∙◌}
 use Rattle.std.specs.Str.{bytes_eq}
 use Rattle.kernel_parser.specs.Names as spec

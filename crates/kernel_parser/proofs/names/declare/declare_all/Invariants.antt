@@ -1,3 +1,4 @@
+-- The declarations so far, and the faults of those that are left.
 use Rattle.std.proofs.Common.{◌≡◌, ◌++◌, [], map, drop}
 use Rattle.kernel_parser.specs.Names as spec
 use Rattle.kernel_parser.proofs.names.declare.declare_all.Given as goal

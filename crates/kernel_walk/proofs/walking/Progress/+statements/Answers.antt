@@ -1,37 +1,14 @@
--- A turn of a loop, and the end of all turns; a body is light where its loop is, and smaller.
-use Rattle.std.proofs.Common.{rules, arith, ◌≡◌, map, sym, subst, ◌∙◌, Err, pos, ◌+ℤ◌, to_z, of_z, w64}
-use Rattle.kernel_ast.specs.Steps.{each, numbers}
-use Rattle.kernel_ast.specs.Walk as spec
-use Rattle.kernel_ast.proofs.Numbers.{loop_kept, loop_ended}
+-- A turn of a loop, and the end of all turns; a body is light where its statement is, and smaller.
+use Rattle.std.proofs.Common.{rules, arith}
 use Rattle.kernel_ast.specs.declared.tree.Stmt.{the_lemmas}
-use Rattle.kernel_walk.specs.Outcomes.{Gives}
-use Rattle.kernel_walk.proofs.LightBodies.{is_light_loop}
-use Rattle.kernel_walk.proofs.Outcomes.{loop_gives}
+use Rattle.kernel_walk.proofs.LightBodies.{is_light_loop, is_light_branch}
 use Rattle.kernel_walk.proofs.walking.Progress.+statements.Goals as goal
-
-pub turns-returns-in_err-one_turn-clause-walked : goal.turns-returns-in_err-one_turn-clause-walked
-turns-returns-in_err-one_turn-clause-walked t c =
-    let from : to_z w64 (of_z w64 c.args.from) ≡ c.args.from = search rules in
-    let to : to_z w64 (of_z w64 c.args.to) ≡ c.args.to = search rules in
-    let err : c.from_residual.result ≡ Err c.in_err-one_turn.field-0.0 = search rules in
-    let turn = spec.one_turn (map (spec.walk c.args.kernel.now.decls) c.args.body.now) c.args.at in
-    subst (λ r. Gives (each (turn c.args.self.now.indices.items) (numbers c.args.from c.args.to) c.args.self.now.turns) c.one_turn.new.self.turns r) (sym err)
-    (loop_gives turn _ _ _ _ _ _ _ _ _ c.one_turn.new.self.turns c.in_err-one_turn.field-0.0 c.each_turn-test.true from to c.each_turn.invariant.0 c.each_turn.invariant.1 c.in_err-one_turn.ensures.walked)
-
-pub turns-each_turn-preserved : goal.turns-each_turn-preserved
-turns-each_turn-preserved t c =
-    let next : to_z w64 (of_z w64 (to_z w64 c.each_turn.i-bits +ℤ pos 1)) ≡ to_z w64 c.each_turn.i-bits +ℤ pos 1 = search rules in
-    let turn = spec.one_turn (map (spec.walk c.args.kernel.now.decls) c.args.body.now) c.args.at in (
-      c.in_ok-one_turn.ensures.same ∙ c.each_turn.invariant.0,
-      loop_kept turn _ _ _ _ _ _ _ _ c.each_turn-test.true next c.each_turn.invariant.0 c.each_turn.invariant.1 c.in_ok-one_turn.ensures.walked,
-    )
-
-pub turns-returns-clause-walked : goal.turns-returns-clause-walked
-turns-returns-clause-walked t c =
-    let from : to_z w64 (of_z w64 c.args.from) ≡ c.args.from = search rules in
-    let to : to_z w64 (of_z w64 c.args.to) ≡ c.args.to = search rules in
-    let turn = spec.one_turn (map (spec.walk c.args.kernel.now.decls) c.args.body.now) c.args.at in
-    loop_ended turn _ _ _ _ _ _ _ _ c.each_turn-test.false from to c.each_turn.invariant.1
 
 pub statement-turns-requires : goal.statement-turns-requires
 statement-turns-requires t c = (search (rules, the_lemmas), grind (arith, is_light_loop, c.requires.light, c.in-Loop.is, c.as_slice-in-Loop.ensures))
+
+pub statement-statements-requires : goal.statement-statements-requires
+statement-statements-requires t c = (search (rules, the_lemmas), grind (arith, is_light_branch, c.requires.light, c.in-Branch.is, c.as_slice-then-branch.ensures))
+
+pub statement-statements-requires-else-branch : goal.statement-statements-requires-else-branch
+statement-statements-requires-else-branch t c = (search (rules, the_lemmas), grind (arith, is_light_branch, c.requires.light, c.in-Branch.is, c.as_slice-else-branch.ensures))

@@ -1,7 +1,7 @@
 -- The statements and turns that are left lead from here to what all lead to from the start.
 use Rattle.std.proofs.Common.{◌≡◌, true, map, drop}
 use Rattle.std.specs.List.{list_all}
-use Rattle.kernel_ast.specs.Steps.{each, numbers}
+use Rattle.kernel_ast.specs.Steps.{each}
 use Rattle.kernel_walk.specs.LightStatements.{is_light}
 use Rattle.loop_unroll.specs.Flats as spec
 use Rattle.loop_unroll.proofs.execution.Execution.+statements.Given as goal
@@ -18,6 +18,6 @@ abbrev pub invariant-turns-each_turn : goal.invariant-turns-each_turn
 invariant-turns-each_turn l =
     record {
       indices : l.self.indices.items ≡ l.fn.self.indices.items;
-      same : each (spec.one_turn (map (spec.unrolled l.kernel.decls) l.body) l.at l.fn.self.indices.items) (numbers l.i l.to) l.self.progress
-          ≡ each (spec.one_turn (map (spec.unrolled l.kernel.decls) l.body) l.at l.fn.self.indices.items) (numbers l.fn.from l.to) l.fn.self.progress;
+      same : each (spec.one_turn (map (spec.unrolled l.kernel.decls) l.body) l.at l.fn.self.indices.items) l.i-iterator l.self.progress
+          ≡ each (spec.one_turn (map (spec.unrolled l.kernel.decls) l.body) l.at l.fn.self.indices.items) l.fn.numbers l.fn.self.progress;
     }

@@ -1,6 +1,6 @@
 -- What is executed so far, with what is left.
 use Rattle.std.proofs.Common.{◌≡◌, map, drop}
-use Rattle.kernel_ast.specs.Steps.{each, in_turn, numbers}
+use Rattle.kernel_ast.specs.Steps.{each, in_turn}
 use Rattle.kernel_ast.specs.Walk.{all_at}
 use Rattle.kernel_ast.specs.Machine as meaning
 use Rattle.source_machine.specs.Numbers as spec
@@ -16,5 +16,5 @@ invariant-statements-each_statement l =
 abbrev pub invariant-turns-each_turn : goal.invariant-turns-each_turn
 invariant-turns-each_turn l =
     (l.self.indices.items ≡ l.fn.self.indices.items)
-    × (each (meaning.one_pass (map (meaning.execute spec.numbers l.kernel.decls) l.body) l.fn.self.indices.items) (numbers l.i l.to) (state l.self)
-    ≡ each (meaning.one_pass (map (meaning.execute spec.numbers l.kernel.decls) l.body) l.fn.self.indices.items) (numbers l.fn.from l.to) (state l.fn.self))
+    × (each (meaning.one_pass (map (meaning.execute spec.numbers l.kernel.decls) l.body) l.fn.self.indices.items) l.i-iterator (state l.self)
+    ≡ each (meaning.one_pass (map (meaning.execute spec.numbers l.kernel.decls) l.body) l.fn.self.indices.items) l.fn.numbers (state l.fn.self))

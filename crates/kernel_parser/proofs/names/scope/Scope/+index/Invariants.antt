@@ -1,3 +1,4 @@
+-- The operators so far, and the faults of those that are left.
 use Rattle.std.proofs.Common.{◌≡◌, ◌++◌, map, drop}
 use Rattle.kernel_ast.specs.Walk.{joined}
 use Rattle.kernel_parser.specs.Names as spec

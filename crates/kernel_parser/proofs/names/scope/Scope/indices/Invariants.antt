@@ -1,3 +1,4 @@
+-- The indices so far, and the faults of those that are left.
 use Rattle.std.proofs.Common.{◌≡◌, ◌++◌, map, drop}
 use Rattle.kernel_parser.specs.Names as spec
 use Rattle.kernel_parser.specs.Resolved as tree

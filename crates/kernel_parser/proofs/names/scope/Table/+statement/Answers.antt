@@ -1,3 +1,4 @@
+-- The names of statements: of assignments, loops and branches.
 use Rattle.std.proofs.Common.{rules, ◌≡◌, ◌+◌, ◌++◌, ◌∷◌, [], IfOk, IfErr, length, drop, append_assoc, sym, ap, subst, ◌∙◌}
 use Rattle.kernel_parser.specs.Names as spec
 use Rattle.kernel_parser.specs.Resolved as tree
@@ -6,7 +7,7 @@ use Rattle.kernel_parser.specs.Scopes.{known_under, entries, EndsAt}
 use Rattle.kernel_ast.specs.declared.tree.Stmt.TheVariants as stmt
 use Rattle.kernel_parser.proofs.Faults.{ends_first, ends_later}
 use Rattle.kernel_parser.proofs.Lists.{drop_next, and_right}
-use Rattle.kernel_parser.proofs.Statements.{assign_has_faults, loop_has_faults, assign_gives, loop_gives}
+use Rattle.kernel_parser.proofs.Statements.{assign_has_faults, loop_has_faults, branch_has_faults, assign_gives, loop_gives, branch_gives}
 use Rattle.kernel_parser.proofs.names.scope.Table.+statement.Goals as goal
 
 pub stmt-returns-in-Assign-clause-tree : goal.stmt-returns-in-Assign-clause-tree
@@ -77,13 +78,95 @@ stmt-returns-in_ok-body-in-Loop-clause-tree t c =
     let inner = c.in_ok-push-in-Loop.ensures.items ∙ ap (λ n. l ++ n ∷ []) c.in_ok-name_of-in-Loop.ensures in
     let from = c.in_ok-from-in-Loop.ensures.from ∙ ap (λ ls. tree.index_of (known_under s ls) h.from) c.as_slice-in-Loop.ensures.value in
     let to = c.in_ok-from-in-Loop.ensures.to ∙ ap (λ ls. tree.index_of (known_under s ls) h.to) c.as_slice-in-Loop.ensures.value in
+    let by = c.in_ok-from-in-Loop.ensures.by ∙ ap (λ ls. tree.step_of (known_under s ls) h.by) c.as_slice-in-Loop.ensures.value in
     let body = c.in_ok-body-in-Loop.ensures.tree
     ∙ ap (λ b. tree.body_of s.text.now (entries s) b c.push.new.self.items) c.as_slice-in-Loop-2.ensures
     ∙ ap (λ ls. tree.body_of s.text.now (entries s) c.in-Loop.body ls) inner in
-    ap (λ x. stmt.Loop x c.in_ok-from-in-Loop.to c.in_ok-body-in-Loop.body h.at) from
-    ∙ ap (λ x. stmt.Loop (tree.index_of (known_under s l) h.from) x c.in_ok-body-in-Loop.body h.at) to
-    ∙ ap (λ x. stmt.Loop (tree.index_of (known_under s l) h.from) (tree.index_of (known_under s l) h.to) x h.at) body
+    let known = known_under s l in
+    ap (λ x. stmt.Loop x c.in_ok-from-in-Loop.field-0.to c.in_ok-from-in-Loop.field-0.by c.in_ok-body-in-Loop.body h.at) from
+    ∙ ap (λ x. stmt.Loop (tree.index_of known h.from) x c.in_ok-from-in-Loop.field-0.by c.in_ok-body-in-Loop.body h.at) to
+    ∙ ap (λ x. stmt.Loop (tree.index_of known h.from) (tree.index_of known h.to) x c.in_ok-body-in-Loop.body h.at) by
+    ∙ ap (λ x. stmt.Loop (tree.index_of known h.from) (tree.index_of known h.to) (tree.step_of known h.by) x h.at) body
     ∙ sym e ∙ sym (ap (λ r. tree.stmt_of s.text.now (entries s) r l) c.in-Loop.is)
+
+pub stmt-returns-in_err-left-in-Branch-clause-fault : goal.stmt-returns-in_err-left-in-Branch-clause-fault
+stmt-returns-in_err-left-in-Branch-clause-fault t c =
+    let s = c.args.self.now in
+    let l = c.args.loops.now.items in
+    let b = c.in-Branch.condition in
+    let o = c.in_err-left-in-Branch.field-0.0 in
+    let e = branch_has_faults s.text.now (entries s) l b c.in-Branch.taken c.in-Branch.other in
+    let here : EndsAt (spec.condition_faults (known_under s l) b) o
+    = subst (λ ls. EndsAt (spec.condition_faults (known_under s ls) b) o) c.as_slice-in-Branch.ensures.value c.in_err-left-in-Branch.ensures.fault in
+    let whole : EndsAt (spec.stmt_faults s.text.now (entries s) c.args.raw.now l) o
+    = subst (λ r. EndsAt (spec.stmt_faults s.text.now (entries s) r l) o) (sym c.in-Branch.is) (subst (λ z. EndsAt z o) (sym e) (ends_first _ _ o here)) in
+    search rules
+
+pub stmt-returns-in_err-taken-in-Branch-clause-fault : goal.stmt-returns-in_err-taken-in-Branch-clause-fault
+stmt-returns-in_err-taken-in-Branch-clause-fault t c =
+    let s = c.args.self.now in
+    let l = c.args.loops.now.items in
+    let b = c.in-Branch.condition in
+    let o = c.in_err-taken-in-Branch.field-0.0 in
+    let e = branch_has_faults s.text.now (entries s) l b c.in-Branch.taken c.in-Branch.other in
+    let none : spec.condition_faults (known_under s l) b ≡ [] = subst (λ ls. spec.condition_faults (known_under s ls) b ≡ []) c.as_slice-in-Branch.ensures.value c.in_ok-left-in-Branch.ensures.faultless in
+    let here : EndsAt (spec.body_faults s.text.now (entries s) c.in-Branch.taken l) o
+    = subst (λ z. EndsAt (spec.body_faults s.text.now (entries s) z l) o) c.as_slice-in-Branch-2.ensures c.in_err-taken-in-Branch.ensures.fault in
+    let whole : EndsAt (spec.stmt_faults s.text.now (entries s) c.args.raw.now l) o
+    = subst (λ r. EndsAt (spec.stmt_faults s.text.now (entries s) r l) o) (sym c.in-Branch.is) (subst (λ z. EndsAt z o) (sym e) (ends_later _ _ o none (ends_first _ _ o here))) in
+    search rules
+
+pub stmt-returns-in_err-other-in-Branch-clause-fault : goal.stmt-returns-in_err-other-in-Branch-clause-fault
+stmt-returns-in_err-other-in-Branch-clause-fault t c =
+    let s = c.args.self.now in
+    let l = c.args.loops.now.items in
+    let b = c.in-Branch.condition in
+    let o = c.in_err-other-in-Branch.field-0.0 in
+    let e = branch_has_faults s.text.now (entries s) l b c.in-Branch.taken c.in-Branch.other in
+    let none : spec.condition_faults (known_under s l) b ≡ [] = subst (λ ls. spec.condition_faults (known_under s ls) b ≡ []) c.as_slice-in-Branch.ensures.value c.in_ok-left-in-Branch.ensures.faultless in
+    let before : spec.body_faults s.text.now (entries s) c.in-Branch.taken l ≡ []
+    = subst (λ z. spec.body_faults s.text.now (entries s) z l ≡ []) c.as_slice-in-Branch-2.ensures c.in_ok-taken-in-Branch.ensures.faultless in
+    let here : EndsAt (spec.body_faults s.text.now (entries s) c.in-Branch.other l) o
+    = subst (λ z. EndsAt (spec.body_faults s.text.now (entries s) z l) o) c.as_slice-in-Branch-3.ensures
+    (subst (λ ls. EndsAt (spec.body_faults s.text.now (entries s) c.as_slice-in-Branch-3.result.now ls) o) c.in_ok-taken-in-Branch.ensures.same c.in_err-other-in-Branch.ensures.fault) in
+    let whole : EndsAt (spec.stmt_faults s.text.now (entries s) c.args.raw.now l) o
+    = subst (λ r. EndsAt (spec.stmt_faults s.text.now (entries s) r l) o) (sym c.in-Branch.is) (subst (λ z. EndsAt z o) (sym e) (ends_later _ _ o none (ends_later _ _ o before here))) in
+    search rules
+
+pub stmt-returns-in_ok-other-in-Branch-clause-faultless : goal.stmt-returns-in_ok-other-in-Branch-clause-faultless
+stmt-returns-in_ok-other-in-Branch-clause-faultless t c =
+    let s = c.args.self.now in
+    let l = c.args.loops.now.items in
+    let b = c.in-Branch.condition in
+    let e = branch_has_faults s.text.now (entries s) l b c.in-Branch.taken c.in-Branch.other in
+    let none : spec.condition_faults (known_under s l) b ≡ [] = subst (λ ls. spec.condition_faults (known_under s ls) b ≡ []) c.as_slice-in-Branch.ensures.value c.in_ok-left-in-Branch.ensures.faultless in
+    let before : spec.body_faults s.text.now (entries s) c.in-Branch.taken l ≡ []
+    = subst (λ z. spec.body_faults s.text.now (entries s) z l ≡ []) c.as_slice-in-Branch-2.ensures c.in_ok-taken-in-Branch.ensures.faultless in
+    let after : spec.body_faults s.text.now (entries s) c.in-Branch.other l ≡ []
+    = subst (λ z. spec.body_faults s.text.now (entries s) z l ≡ []) c.as_slice-in-Branch-3.ensures
+    (subst (λ ls. spec.body_faults s.text.now (entries s) c.as_slice-in-Branch-3.result.now ls ≡ []) c.in_ok-taken-in-Branch.ensures.same c.in_ok-other-in-Branch.ensures.faultless) in
+    ap (λ r. spec.stmt_faults s.text.now (entries s) r l) c.in-Branch.is ∙ e
+    ∙ ap (λ z. z ++ (spec.body_faults s.text.now (entries s) c.in-Branch.taken l ++ spec.body_faults s.text.now (entries s) c.in-Branch.other l)) none
+    ∙ ap (λ z. z ++ spec.body_faults s.text.now (entries s) c.in-Branch.other l) before ∙ after
+
+pub stmt-returns-in_ok-other-in-Branch-clause-tree : goal.stmt-returns-in_ok-other-in-Branch-clause-tree
+stmt-returns-in_ok-other-in-Branch-clause-tree t c =
+    let s = c.args.self.now in
+    let l = c.args.loops.now.items in
+    let b = c.in-Branch.condition in
+    let known = known_under s l in
+    let e = branch_gives s.text.now (entries s) l b c.in-Branch.taken c.in-Branch.other in
+    let left = c.in_ok-left-in-Branch.ensures.left ∙ ap (λ ls. tree.index_of (known_under s ls) b.left) c.as_slice-in-Branch.ensures.value in
+    let right = c.in_ok-left-in-Branch.ensures.right ∙ ap (λ ls. tree.index_of (known_under s ls) b.right) c.as_slice-in-Branch.ensures.value in
+    let taken = c.in_ok-taken-in-Branch.ensures.tree ∙ ap (λ z. tree.body_of s.text.now (entries s) z l) c.as_slice-in-Branch-2.ensures in
+    let other = c.in_ok-other-in-Branch.ensures.tree
+    ∙ ap (λ ls. tree.body_of s.text.now (entries s) c.as_slice-in-Branch-3.result.now ls) c.in_ok-taken-in-Branch.ensures.same
+    ∙ ap (λ z. tree.body_of s.text.now (entries s) z l) c.as_slice-in-Branch-3.ensures in
+    ap (λ x. stmt.Branch x b.rel c.in_ok-left-in-Branch.right c.in_ok-taken-in-Branch.taken c.in_ok-other-in-Branch.other b.at) left
+    ∙ ap (λ x. stmt.Branch (tree.index_of known b.left) b.rel x c.in_ok-taken-in-Branch.taken c.in_ok-other-in-Branch.other b.at) right
+    ∙ ap (λ x. stmt.Branch (tree.index_of known b.left) b.rel (tree.index_of known b.right) x c.in_ok-other-in-Branch.other b.at) taken
+    ∙ ap (λ x. stmt.Branch (tree.index_of known b.left) b.rel (tree.index_of known b.right) (tree.body_of s.text.now (entries s) c.in-Branch.taken l) x b.at) other
+    ∙ sym e ∙ sym (ap (λ r. tree.stmt_of s.text.now (entries s) r l) c.in-Branch.is)
 
 pub body-returns-in_err-stmt-clause-fault : goal.body-returns-in_err-stmt-clause-fault
 body-returns-in_err-stmt-clause-fault t c =

@@ -1,3 +1,4 @@
+-- The statements so far, and the faults of those that are left.
 use Rattle.std.proofs.Common.{◌≡◌, ◌++◌, drop, true, length}
 use Rattle.kernel_parser.specs.Names as spec
 use Rattle.kernel_parser.specs.RawFits.{body_fits}
