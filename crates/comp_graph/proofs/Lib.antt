@@ -1,5 +1,7 @@
 pub mod Sets
 pub mod Rising
+pub mod Sums
+pub mod WordSets
 pub mod DagLaws
 pub mod Live
 pub mod Degree

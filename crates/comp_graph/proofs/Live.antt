@@ -80,3 +80,8 @@ live_of_is d live ok is = same _ _ (λ v.
         | inr out ↦ out ∙ sym e ∙ sym by_test
       ]
     ])
+
+pub live_of_is_live : (d : Dag) → IsDag d → IsLiveSet d (live_of d)
+live_of_is_live d ok = record {
+  members = λ v. (λ e. (live_by_paths d ok v).0 (sym (has_live_of d ok v) ∙ e), λ l. has_live_of d ok v ∙ (live_by_paths d ok v).1 l);
+}

@@ -1,10 +1,10 @@
 -- Laws of the members of a set in rising order.
-use Rattle.std.proofs.Common.{◌≡◌, ℕ, zero, suc, ◌<◌, ltb, Bool, true, false, ◌&&◌, List, [], ◌∷◌, ◌++◌, length, cond, sym, refl, ap, ◌∙◌, subst, inl, inr, arith, length-append, append-nil}
+use Rattle.std.proofs.Common.{◌≡◌, ℕ, zero, suc, ◌≤◌, ◌<◌, ltb, Bool, true, false, ◌&&◌, List, [], ◌∷◌, ◌++◌, length, cond, sym, refl, ap, ◌∙◌, subst, inl, inr, arith, length-append, append-nil}
 use Rattle.std.specs.FinSet as set
 use Rattle.std.specs.FinSet.{from_list_push, nat_cmp-IsAntisymmetric}
 use Rattle.std.specs.Cmp.{nat_cmp_total}
 use Rattle.std.specs.List.{All}
-use Rattle.std.proofs.lemmas.Bool.{cases_lt, false_from_ne_true}
+use Rattle.std.proofs.lemmas.Bool.{cases_Bool, cases_lt, false_from_ne_true}
 use Rattle.std.proofs.lemmas.List.Elements.{All-push, All-weaker, All-nil}
 use Rattle.comp_graph.specs.Vertices.{Vertices, ◌∈◌, ◌∉◌, size, rising, IsLeast}
 use Rattle.comp_graph.specs.Sets.{same, membership}
@@ -96,3 +96,34 @@ pub All-rising : (n : ℕ) (s : Vertices) → All (λ x. x < n) (rising n s)
 unfolding rising
 All-rising zero s = All-nil (λ x. x < 0)
 All-rising (suc n) s = last_below (set.contains s n) (rising n s) n (All-rising n s)
+
+-- a list of rising members, a number at a time
+pub rising-zero : (s : Vertices) → rising zero s ≡ []
+unfolding rising
+rising-zero s = refl
+
+pub rising-in : (n : ℕ) (s : Vertices) → n ∈ s → rising (suc n) s ≡ rising n s ++ n ∷ []
+unfolding rising
+rising-in n s h = ap (λ b. rising n s ++ cond b (n ∷ []) []) h
+
+pub rising-out : (n : ℕ) (s : Vertices) → n ∉ s → rising (suc n) s ≡ rising n s
+unfolding rising
+rising-out n s h = ap (λ b. rising n s ++ cond b (n ∷ []) []) h ∙ append-nil (rising n s)
+
+-- members below m are all members
+pub rising-past : (s : Vertices) (m : ℕ) → ((v : ℕ) → v ∈ s → v < m) → (n : ℕ) → m ≤ n → rising n s ≡ rising m s
+rising-past s m below zero less = ap (λ k. rising k s) (let e : zero ≡ m = omega arith in e)
+rising-past s m below (suc n) less = elim (cases_lt n m) [
+  | inl within ↦ ap (λ k. rising k s) (let e : suc n ≡ m = omega arith in e)
+  | inr past ↦ rising-out n s (false_from_ne_true (set.contains s n) (λ h. absurd (omega (arith, below n h)))) ∙ rising-past s m below n past
+]
+
+-- there are no more of them than numbers
+pub length-rising_le : (n : ℕ) (s : Vertices) → length (rising n s) ≤ n
+length-rising_le zero s = let e = ap length (rising-zero s) in omega arith
+length-rising_le (suc n) s =
+    let rest = length-rising_le n s in
+    elim (cases_Bool (set.contains s n)) [
+      | inl h ↦ let e = ap length (rising-in n s h) in let sum = length-append (rising n s) (n ∷ []) in omega arith
+      | inr h ↦ let e = ap length (rising-out n s h) in omega arith
+    ]

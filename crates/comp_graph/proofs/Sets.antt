@@ -1,9 +1,9 @@
 -- Laws of sets of vertices: members, induction a member at a time, and how many members there are.
-use Rattle.std.proofs.Common.{◌≡◌, ℕ, ◌+◌, ◌-◌, ◌≤◌, ◌<◌, zero, suc, Bool, true, false, ltb, List, [], ◌∷◌, ◌⊎◌, cond, sym, refl, ap, ◌∙◌, subst, add-zero, add-suc, arith}
+use Rattle.std.proofs.Common.{◌≡◌, ℕ, ◌+◌, ◌-◌, ◌≤◌, ◌<◌, zero, suc, Bool, true, false, ltb, List, [], ◌∷◌, ◌⊎◌, inl, inr, cond, sym, refl, ap, ◌∙◌, subst, add-zero, add-suc, arith}
 use Rattle.std.specs.Ordering.{nat_cmp}
 use Rattle.std.specs.Cmp.{nat_cmp_total}
 use Rattle.std.specs.FinSet as set
-use Rattle.std.proofs.lemmas.Bool.{and_left, and_parts, le-ltb, ltb-true}
+use Rattle.std.proofs.lemmas.Bool.{cases_Bool, cases_lt, and_left, and_parts, le-ltb, ltb-true}
 use Rattle.comp_graph.specs.Vertices.{Vertices, ◌∈◌, ◌∉◌, IsWithin, IsOutside, size, AllBelow, set_below, count_below}
 use Rattle.comp_graph.specs.Sets.{same, membership, has_set_below}
 
@@ -217,6 +217,29 @@ pub count_below-add : (p : ℕ → Bool) (a b : ℕ) → count_below p (a + b) �
 unfolding count_below
 count_below-add p a zero = rw add-zero (sym (add-zero _))
 count_below-add p a (suc b) = rw add-suc (let rest = count_below-add p a b in omega (arith, rest))
+
+-- the place of v among the members of s is the number of members below v: it grows by 1 behind a member, and not else
+pub count_below-in : (s : Vertices) (v : ℕ) → v ∈ s → count_below (set.contains s) (suc v) ≡ count_below (set.contains s) v + 1
+unfolding count_below
+count_below-in s v h = let e = ap (λ b. cond b 1 0 + count_below (set.contains s) v) h in omega arith
+
+pub count_below-out : (s : Vertices) (v : ℕ) → v ∉ s → count_below (set.contains s) (suc v) ≡ count_below (set.contains s) v
+unfolding count_below
+count_below-out s v h = let e = ap (λ b. cond b 1 0 + count_below (set.contains s) v) h in omega arith
+
+pub count_below-grows : (s : Vertices) (v : ℕ) → count_below (set.contains s) v ≤ count_below (set.contains s) (suc v)
+count_below-grows s v = elim (cases_Bool (set.contains s v)) [
+  | inl h ↦ let e = count_below-in s v h in omega arith
+  | inr h ↦ let e = count_below-out s v h in omega arith
+]
+
+-- so a member comes before each greater number
+pub count_below-less : (s : Vertices) (v w : ℕ) → v ∈ s → v < w → count_below (set.contains s) v < count_below (set.contains s) w
+count_below-less s v zero h less = absurd (omega arith)
+count_below-less s v (suc w) h less = elim (cases_lt v w) [
+  | inl lower ↦ let before = count_below-less s v w h lower in let grows = count_below-grows s w in omega arith
+  | inr last ↦ let e : v ≡ w = omega arith in let here = count_below-in s v h in let at = ap (λ k. count_below (set.contains s) (suc k)) e in omega arith
+]
 
 -- a set of numbers below n has at most n members
 pub size_le_below : (n : ℕ) (s : Vertices) → AllBelow n s → size s ≤ n

@@ -1,5 +1,5 @@
--- What contracts see of a `Graph`.
-use Rattle.comp_graph.specs.declared.graph.Graph.TheInside.{Inside}
+-- What contracts see of the lists of a `Graph`.
+use Rattle.comp_graph.specs.declared.graph_lists.GraphLists.TheInside.{Inside}
 use Rattle.comp_graph.specs.Graphs.{GraphParts}
 
 -- the fields, with each vector as its list

@@ -1,3 +1,4 @@
+-- The definitions of this crate: sets of vertices, operations, graphs, games.
 pub mod Vertices
 pub mod Sets
 pub mod Words
@@ -6,5 +7,6 @@ pub mod Operations
 pub mod Dags
 pub mod Graphs
 pub mod GraphView
+pub mod Kept
 pub mod Games
 pub mod Laws

@@ -1,5 +1,5 @@
--- The operations: how many operands each takes, and its value on 64-bit two's complement numbers.
-use Rattle.std.specs.Prelude.{ℕ, ℤ, pos, ◌+ℤ◌, ◌-ℤ◌, ◌*ℤ◌, neg_ℤ, cond}
+-- The operations: how many operands each takes, its word, and its value on 64-bit two's complement numbers.
+use Rattle.std.specs.Prelude.{ℕ, ℤ, List, codes, pos, ◌+ℤ◌, ◌-ℤ◌, ◌*ℤ◌, neg_ℤ, cond}
 use Rattle.std.specs.Int.{w64, int_wrap, int_bit_and, int_bit_or, int_bit_xor, int_min, int_max}
 use Rattle.std.specs.Ordering.{int_eq}
 use Rattle.comp_graph.specs.declared.operation.Op.{Op}
@@ -20,6 +20,22 @@ arity_of Min = 2
 arity_of Max = 2
 arity_of Sel = 3
 arity_of Mad = 3
+
+-- the word of an operation; `in` stands for one that is given from outside
+abbrev pub op_word : Op → List ℕ
+op_word Input = codes "in"
+op_word Set = codes "set"
+op_word Add = codes "add"
+op_word Sub = codes "sub"
+op_word Mul = codes "mul"
+op_word And = codes "and"
+op_word Or = codes "or"
+op_word Xor = codes "xor"
+op_word Neg = codes "neg"
+op_word Min = codes "min"
+op_word Max = codes "max"
+op_word Sel = codes "sel"
+op_word Mad = codes "mad"
 
 -- what is left of a number in 64 bits of two's complement
 abbrev pub wrapped : ℤ → ℤ

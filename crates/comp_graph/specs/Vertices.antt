@@ -58,6 +58,11 @@ unfoldable pub count_below : (ℕ → Bool) → ℕ → ℕ
 count_below p zero = 0
 count_below p (suc n) = cond (p n) 1 0 + count_below p n
 
+-- the sum of f over the numbers below n
+abbrev pub sum_below : ℕ → (ℕ → ℕ) → ℕ
+sum_below zero f = 0
+sum_below (suc n) f = f n + sum_below n f
+
 -- the members of s below n, in rising order
 unfoldable pub rising : ℕ → Vertices → List ℕ
 rising zero s = []

@@ -1,17 +1,20 @@
-//! Games: graphs with more slots than their degree.
+//! Games: graphs with more slots than their degree, and with what a load and a store cost.
 ghost use Rattle.std.specs.Prelude.{◌≡◌, ◌+◌, ◌-◌, ◌<◌, ◌≤◌, IfOk, IfErr};
 ghost use Rattle.comp_graph.specs.Dags.{degree};
 ghost use Rattle.comp_graph.specs.Graphs.{dag_of};
-ghost use Rattle.comp_graph.specs.Games.{IsGame};
+ghost use Rattle.comp_graph.specs.Games.{IsGame, AreWeights};
 
+use crate::costs::Weights;
 use crate::graph::Graph;
 use std::marker::Model;
 
-/// A graph and a number of slots (red pebbles, words of fast memory), from 1 to 64, that is greater than its degree.
+/// A graph, a number of slots (red pebbles, words of fast memory), from 1 to 64, that is greater than its degree, and what a load and a
+/// store cost, each from 1 to 16.
 #[derive(Drop)]
 pub struct Game {
     graph: Graph,
     slots: u16,
+    weights: Weights,
 }
 
 impl Model for Game {
@@ -19,9 +22,9 @@ impl Model for Game {
 
     ghost Value = { GameParts };
 
-    ghost view = { λ a. record { graph = a.graph; slots = a.slots } };
+    ghost view = { λ a. record { graph = a.graph; slots = a.slots; weights = a.weights } };
 
-    ghost invariant = { λ a. IsGame (record { graph = a.graph; slots = a.slots }) };
+    ghost invariant = { λ a. IsGame (record { graph = a.graph; slots = a.slots; weights = a.weights }) };
 }
 
 /// There are no more slots than the degree. `needs` is the degree plus 1, and the graph is handed back.
@@ -32,11 +35,13 @@ pub struct TooSmall {
 }
 
 impl Game {
-    /// The game on a graph with this many slots. `TooSmall` comes exactly where `slots` is at most the graph's degree.
-    pub fn new(graph: Graph, slots: u16) -> Result<Game, TooSmall>
+    /// The game on a graph with this many slots, from 1 to 64, where loads and stores have these costs, from 1 to 16. `TooSmall` comes exactly
+    /// where `slots` is at most the graph's degree. It takes no memory.
+    pub fn new(graph: Graph, slots: u16, weights: Weights) -> Result<Game, TooSmall>
         requires some { 0 < slots }
         requires most { slots ≤ 64 }
-        ensures ok { IfOk result (λ game. game ≡ record { graph = graph; slots = slots }) }
+        requires weights { AreWeights weights }
+        ensures ok { IfOk result (λ game. game ≡ record { graph = graph; slots = slots; weights = weights }) }
         ensures room { IfOk result (λ _. degree (dag_of graph) < slots) }
         ensures small { IfErr result (λ small. slots ≤ degree (dag_of graph)) }
         ensures needs { IfErr result (λ small. small.needs ≡ degree (dag_of graph) + 1) }
@@ -49,7 +54,11 @@ impl Game {
                 graph,
             });
         }
-        Ok(Game { graph, slots })
+        Ok(Game {
+            graph,
+            slots,
+            weights,
+        })
     }
 
     /// The graph that the game is played on.
@@ -66,5 +75,13 @@ impl Game {
         ensures valid { IsGame self.now }
     {
         self.slots
+    }
+
+    /// What a load and a store cost.
+    pub fn weights(&self) -> Weights
+        ensures value { result ≡ self.now.weights }
+        ensures valid { IsGame self.now }
+    {
+        self.weights
     }
 }

@@ -1,50 +1,57 @@
 //! Computation graphs.
-ghost use Rattle.std.specs.Prelude.{◌≡◌, ℕ, ◌<◌, ◌≤◌, length};
-ghost use Rattle.std.specs.FinSet as set;
+ghost use Rattle.std.specs.Prelude.{◌≡◌, ◌<◌, length};
 ghost use Rattle.comp_graph.specs.Dags.{IsLiveSet, IsDegree, live_of, degree};
-ghost use Rattle.comp_graph.specs.Graphs.{GraphParts, IsGraph, dag_of, vertices_of, IsOperandBelow};
-ghost use Rattle.std.specs.List.{All};
+ghost use Rattle.comp_graph.specs.Graphs.{GraphParts, IsGraph, dag_of};
 
+use crate::graph_lists::GraphLists;
 use crate::label::Label;
-use crate::node::{Node, Operand, Output};
+use crate::node::{Node, Output};
 use crate::vertex_set::VertexSet;
 use std::marker::Model;
 
 /// The graph of a program. Its vertices are the places of a list of nodes: first the inputs, and then operations on constants and
 /// earlier vertices. It keeps the program's title, the labels of the inputs, and the output elements. Contracts see it as a record of
-/// lists.
+/// lists. The sets of its inputs, its outputs and its live vertices, and its degree, are found once, when the graph is made.
 #[derive(Drop)]
 pub struct Graph {
-    title: Label,
-    nodes: Vec<Node>,
-    names: Vec<Label>,
-    outputs: Vec<Output>,
+    lists: GraphLists,
+    in_set: VertexSet,
+    out_set: VertexSet,
+    live: VertexSet,
+    degree: u16,
 }
 
 impl Model for Graph {
-    ghost use Rattle.comp_graph.specs.Graphs.{GraphParts, IsGraph};
+    ghost use Rattle.comp_graph.specs.Graphs.{GraphParts};
 
     ghost Value = { GraphParts };
 
-    ghost use Rattle.comp_graph.specs.GraphView.{parts};
+    ghost use Rattle.comp_graph.specs.Kept.{IsKept};
 
-    ghost view = { parts };
+    ghost view = { λ a. a.lists };
 
-    ghost invariant = { λ a. IsGraph (parts a) };
+    ghost invariant = { IsKept };
 }
 
 impl Graph {
     /// The graph of these parts: at most 256 nodes; the first `names.len()` nodes and no others have operation `Input`; an
-    /// operand is a constant or a vertex below its own; a `Set` has a constant; each output names a vertex.
+    /// operand is a constant or a vertex below its own; a `Set` has a constant; places from the arity of a node on hold `Const(0)`; each
+    /// output names a vertex. It takes no memory.
     pub fn new(title: Label, nodes: Vec<Node>, names: Vec<Label>, outputs: Vec<Output>) -> Graph
         requires { IsGraph (record { title = title; nodes = nodes.items; names = names.items; outputs = outputs.items }) }
         ensures { result ≡ record { title = title; nodes = nodes.items; names = names.items; outputs = outputs.items } }
     {
+        let lists = GraphLists::new(title, nodes, names, outputs);
+        let in_set = lists.in_set();
+        let out_set = lists.out_set();
+        let live = lists.live();
+        let degree = lists.degree(&live);
         Graph {
-            title,
-            nodes,
-            names,
-            outputs,
+            lists,
+            in_set,
+            out_set,
+            live,
+            degree,
         }
     }
 
@@ -52,7 +59,7 @@ impl Graph {
     pub fn title(&self) -> &Label
         ensures { result.now ≡ self.now.title }
     {
-        &self.title
+        self.lists.title()
     }
 
     /// The vertices in rising number.
@@ -60,21 +67,21 @@ impl Graph {
         ensures value { result.now ≡ self.now.nodes }
         ensures valid { IsGraph self.now }
     {
-        &self.nodes
+        self.lists.nodes()
     }
 
     /// The labels of the inputs: the k-th is that of vertex k.
     pub fn names(&self) -> &[Label]
         ensures { result.now ≡ self.now.names }
     {
-        &self.names
+        self.lists.names()
     }
 
     /// The output elements in order of declaration.
     pub fn outputs(&self) -> &[Output]
         ensures { result.now ≡ self.now.outputs }
     {
-        &self.outputs
+        self.lists.outputs()
     }
 
     /// The number of vertices, from 0 to 256: they are the numbers below it.
@@ -82,7 +89,7 @@ impl Graph {
         ensures value { result ≡ length self.now.nodes }
         ensures valid { IsGraph self.now }
     {
-        self.nodes.len() as u16
+        self.lists.len()
     }
 
     /// The number of inputs: they are the vertices below it.
@@ -90,7 +97,7 @@ impl Graph {
         ensures value { result ≡ length self.now.names }
         ensures valid { IsGraph self.now }
     {
-        self.names.len() as u16
+        self.lists.inputs()
     }
 
     /// The immediate predecessors of a vertex: the vertices among its operands, each once.
@@ -98,45 +105,29 @@ impl Graph {
         requires { v < length self.now.nodes }
         ensures { result ≡ (dag_of self.now).preds v }
     {
-        let node = &self.nodes[v as usize];
-        let arity = node.op.arity();
-        vertices(&node.args[..arity as usize])
+        self.lists.preds(v)
     }
 
     /// The vertices that are inputs.
     pub fn in_set(&self) -> VertexSet
         ensures { result ≡ (dag_of self.now).inputs }
     {
-        let mut inputs = VertexSet::empty();
-        for v in 0..self.inputs() {
-            inputs = inputs.with(v);
-        }
-        inputs
+        self.in_set
     }
 
     /// The vertices that an output element names.
     pub fn out_set(&self) -> VertexSet
         ensures { result ≡ (dag_of self.now).outputs }
     {
-        let mut outputs = VertexSet::empty();
-        for output in &self.outputs {
-            outputs = outputs.with(output.vertex);
-        }
-        outputs
+        self.out_set
     }
 
-    /// The live vertices: the outputs, and the vertices from which a path leads to one. One pass from the last vertex down.
+    /// The live vertices: the outputs, and the vertices from which a path leads to one.
     pub fn live(&self) -> VertexSet
         ensures paths { IsLiveSet (dag_of self.now) result }
         ensures value { result ≡ live_of (dag_of self.now) }
     {
-        let mut live = self.out_set();
-        for v in (0..self.len()).rev() {
-            if live.has(v) {
-                live = live.union(&self.preds(v));
-            }
-        }
-        live
+        self.live
     }
 
     /// The greatest number of predecessors of a live vertex, and 0 if there is none.
@@ -145,27 +136,6 @@ impl Graph {
         ensures value { result ≡ degree (dag_of self.now) }
         ensures small { result < 256 }
     {
-        let live = self.live();
-        let mut most = 0;
-        for v in 0..self.len() {
-            if live.has(v) {
-                most = most.max(self.preds(v).count());
-            }
-        }
-        most
+        self.degree
     }
-}
-
-// The vertices among operands.
-fn vertices(operands: &[Operand]) -> VertexSet
-    requires { All (IsOperandBelow 256) operands.now }
-    ensures { result ≡ vertices_of operands.now }
-{
-    let mut found = VertexSet::empty();
-    for operand in operands {
-        if let Operand::Vertex(v) = *operand {
-            found = found.with(v);
-        }
-    }
-    found
 }

@@ -32,7 +32,7 @@ impl Label {
         &self.text
     }
 
-    /// A second label of the same bytes.
+    /// A second label of the same bytes, or want of memory, which may come at any time.
     pub fn copy(&self, alloc: Global) -> Result<Label, NoMemory>
         ensures { IfOk result (λ label. label ≡ self.now) }
     {

@@ -1,6 +1,6 @@
 //! The operations of a program, on 64-bit two's complement numbers.
 ghost use Rattle.std.specs.Prelude.{◌≡◌, ◌≢◌, slice_index_or, pos};
-ghost use Rattle.comp_graph.specs.Operations.{arity_of, value_of};
+ghost use Rattle.comp_graph.specs.Operations.{arity_of, op_word, value_of};
 
 /// What a vertex computes. `Input` is given from outside, `Set` is a constant, `Sel` of `c`, `a`, `b` is `a` where `c` is not 0 and
 /// else `b`, and `Mad` of `a`, `b`, `c` is `a * b + c`. `Min` and `Max` compare as signed numbers.
@@ -31,6 +31,27 @@ impl Op {
             Op::Set | Op::Neg => 1,
             Op::Sel | Op::Mad => 3,
             _ => 2,
+        }
+    }
+
+    /// Its word, as texts of graphs and of code write it: `set`, `add`, and so on, and `in` for `Input`.
+    pub fn word(self) -> &'static str
+        ensures { result.now ≡ op_word self }
+    {
+        match self {
+            Op::Input => "in",
+            Op::Set => "set",
+            Op::Add => "add",
+            Op::Sub => "sub",
+            Op::Mul => "mul",
+            Op::And => "and",
+            Op::Or => "or",
+            Op::Xor => "xor",
+            Op::Neg => "neg",
+            Op::Min => "min",
+            Op::Max => "max",
+            Op::Sel => "sel",
+            Op::Mad => "mad",
         }
     }
 

@@ -1,5 +1,5 @@
 //! Sets of vertices, in four machine words.
-ghost use Rattle.std.specs.Prelude.{◌≡◌, ℕ, ◌<◌, ◌≤◌, MatchOption, IsTrue, ◌↔◌};
+ghost use Rattle.std.specs.Prelude.{◌≡◌, ℕ, ◌<◌, ◌≤◌, MatchOption, IsTrue, ◌↔◌, slice_set};
 ghost use Rattle.std.specs.FinSet as set;
 ghost use Rattle.std.specs.Cmp.{partial_equiv_from_equiv};
 ghost use Rattle.comp_graph.specs.Words.{set_of_words, word_of};
@@ -51,6 +51,21 @@ impl Eq for VertexSet {
     ghost laws = { same_members-laws };
 }
 
+// The words with another one at place k. It is no store to `words[k]`: what would be read next are all four words, and a processor waits
+// where a part of what it reads was just written.
+fn with_word(words: [u64; 4], k: u16, word: u64) -> [u64; 4]
+    requires { k < 4 }
+    ensures { result ≡ slice_set words k word }
+{
+    let [a, b, c, d] = words;
+    match k {
+        0 => [word, b, c, d],
+        1 => [a, word, c, d],
+        2 => [a, b, word, d],
+        _ => [a, b, c, word],
+    }
+}
+
 impl VertexSet {
     /// The set with no member.
     pub fn empty() -> VertexSet
@@ -73,9 +88,10 @@ impl VertexSet {
         requires { v < 256 }
         ensures { result ≡ set.insert self.now v }
     {
-        let mut words = self.words;
-        words[v as usize / 64] |= 1 << (v % 64);
-        VertexSet { words }
+        let word = self.words[v as usize / 64] | 1 << (v % 64);
+        VertexSet {
+            words: with_word(self.words, v / 64, word),
+        }
     }
 
     /// The set without v.
@@ -83,9 +99,10 @@ impl VertexSet {
         requires { v < 256 }
         ensures { result ≡ set.remove self.now v }
     {
-        let mut words = self.words;
-        words[v as usize / 64] &= !(1 << (v % 64));
-        VertexSet { words }
+        let word = self.words[v as usize / 64] & !(1 << (v % 64));
+        VertexSet {
+            words: with_word(self.words, v / 64, word),
+        }
     }
 
     /// The members of either set.
@@ -155,7 +172,8 @@ impl VertexSet {
     /// Word k of the set: vertex v is bit v mod 64 of word v div 64.
     pub fn word(&self, k: u8) -> u64
         requires { k < 4 }
-        ensures { result ≡ word_of self.now k }
+        ensures value { result ≡ word_of self.now k }
+        ensures bounded { AllBelow 256 self.now }
     {
         self.words[k as usize]
     }

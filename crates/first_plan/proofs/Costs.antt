@@ -1,6 +1,7 @@
 -- What the steps of the first plan cost, and which vertices they work on.
 use Rattle.std.proofs.Common.{◌≡◌, ℕ, zero, suc, ◌+◌, ◌*◌, ◌≤◌, ◌<◌, inl, inr, Bool, true, false, ◌&&◌, ltb, cond, List, [], ◌∷◌, ◌++◌, refl, sym, ap, ◌∙◌, subst, arith, append-nil}
 use Rattle.std.proofs.lemmas.Bool.Decides.{nat_tests}
+use Rattle.std.proofs.lemmas.Nat.{mul-le}
 use Rattle.std.proofs.lemmas.List.Quantifiers.{all_pairs_push}
 use Rattle.std.specs.List.{AllPairs}
 use Rattle.std.specs.FinSet as set
@@ -87,50 +88,55 @@ rising_pairs (suc n) s = pairs_last n s (set.contains s n) (rising_pairs n s)
 pub works_once : WorksOnce
 works_once g = subst (AllPairs (λ v w. v < w)) (sym (works_in_order g)) (rising_pairs g.dag.count (wanted_of g.dag))
 
--- ---- the cost, where a load and a store cost 1
+-- ---- the cost, where a load and a store cost at most 16
 
-removal_cost : (game : GameParts) (p : Position) (u : ℕ) (missed : Bool) → step_cost (game_of game) p (cond missed (Spill u) (Drop u)) ≤ 1
-removal_cost game p u true = omega arith
-removal_cost game p u false = omega arith
+removal_cost : (game : GameParts) → IsGame game → (p : Position) (u : ℕ) (missed : Bool) → step_cost (game_of game) p (cond missed (Spill u) (Drop u)) ≤ 16
+removal_cost game valid p u true = valid.weights.store_most
+removal_cost game valid p u false = omega arith
 
-one_removal_cost : (game : GameParts) (p : Position) (v u : ℕ) → step_cost (game_of game) p (removal_of (game_of game) p v u) ≤ 1
+one_removal_cost : (game : GameParts) → IsGame game → (p : Position) (v u : ℕ) → step_cost (game_of game) p (removal_of (game_of game) p v u) ≤ 16
 unfolding removal_of
-one_removal_cost game p v u = removal_cost game p u (is_missed (game_of game) p v u)
+one_removal_cost game valid p v u = removal_cost game valid p u (is_missed (game_of game) p v u)
 
-short_cost : (game : GameParts) (p : Position) (short : Bool) (s : Step) (ss : List Step) (times : ℕ) → step_cost (game_of game) p s ≤ 1 → play_cost (game_of game) (stepped (game_of game) p s) ss ≤ times
-    → play_cost (game_of game) p (cond short (s ∷ ss) []) ≤ times + 1
+short_cost : (game : GameParts) (p : Position) (short : Bool) (s : Step) (ss : List Step) (times : ℕ) → step_cost (game_of game) p s ≤ 16 → play_cost (game_of game) (stepped (game_of game) p s) ss ≤ 16 * times
+    → play_cost (game_of game) p (cond short (s ∷ ss) []) ≤ 16 * (times + 1)
 short_cost game p true s ss times first rest = omega arith
 short_cost game p false s ss times first rest = omega arith
 
-removals_cost : (game : GameParts) (v times : ℕ) (p : Position) → play_cost (game_of game) p (removals (game_of game) v times p) ≤ times
+removals_cost : (game : GameParts) → IsGame game → (v times : ℕ) (p : Position) → play_cost (game_of game) p (removals (game_of game) v times p) ≤ 16 * times
 unfolding removals
-removals_cost game v zero p = omega arith
-removals_cost game v (suc times) p =
+removals_cost game valid v zero p = omega arith
+removals_cost game valid v (suc times) p =
     let s = removal (game_of game) p v in
     let q = stepped (game_of game) p s in
-    let sum = short_cost game p (is_short (game_of game) p v) s (removals (game_of game) v times q) times (one_removal_cost game p v (victim (game_of game) p v)) (removals_cost game v times q) in
+    let sum = short_cost game p (is_short (game_of game) p v) s (removals (game_of game) v times q) times (one_removal_cost game valid p v (victim (game_of game) p v)) (removals_cost game valid v times q) in
     omega arith
 
 preds_few : (d : Dag) → IsDag d → (v : ℕ) (red : Vertices) → size (set.difference (d.preds v) red) ≤ v
 preds_few d dag v red = size_le_below v (set.difference (d.preds v) red) (record { below = λ w h. dag.preds_below v w (difference_first (d.preds v) red w h) })
 
+-- a weight times a number of vertices
+few_times : (weight count : ℕ) → weight ≤ 16 → count ≤ 256 → weight * count ≤ 4096
+few_times weight count small few = mul-le weight count 16 256 small few
+
 -- a turn costs at most a store for each red vertex and a load for each predecessor
-turn_cost : (game : GameParts) → IsGame game → (v : ℕ) (p : Position) → v < 256 → IsReady (game_of game) v p → play_cost (game_of game) p (turn_steps (game_of game) v p) ≤ 320
+turn_cost : (game : GameParts) → IsGame game → (v : ℕ) (p : Position) → v < 256 → IsReady (game_of game) v p → play_cost (game_of game) p (turn_steps (game_of game) v p) ≤ 5120
 turn_cost game valid v p small ready =
     let g = game_of game in
     let room = room_steps g v p in
     let sum = append_cost g p room (Work v ∷ []) in
-    let removed = removals_cost game v (size p.red) p in
+    let removed = removals_cost game valid v (size p.red) p in
     let fits = ready.sound.fits in
     let few = valid.most in
-    let loads = preds_few g.dag (IsDag-dag_of game.graph valid.valid) v (play_after g p room).red in
+    let preds = preds_few g.dag (IsDag-dag_of game.graph valid.valid) v (play_after g p room).red in
+    let loads = few_times g.load (size (set.difference (g.dag.preds v) (play_after g p room).red)) valid.weights.load_most (omega arith) in
     omega arith
 
-next_cost : (game : GameParts) → IsGame game → (n : ℕ) (p : Position) (wanted : Bool) → n < 256 → IsReady (game_of game) n p → play_cost (game_of game) p (cond wanted (turn_steps (game_of game) n p) []) ≤ 320
+next_cost : (game : GameParts) → IsGame game → (n : ℕ) (p : Position) (wanted : Bool) → n < 256 → IsReady (game_of game) n p → play_cost (game_of game) p (cond wanted (turn_steps (game_of game) n p) []) ≤ 5120
 next_cost game valid n p true small ready = turn_cost game valid n p small ready
 next_cost game valid n p false small ready = omega arith
 
-steps_cost : (game : GameParts) → IsGame game → (n : ℕ) → n ≤ 256 → play_cost (game_of game) (start (game_of game)) (steps_below (game_of game) n) ≤ 320 * n
+steps_cost : (game : GameParts) → IsGame game → (n : ℕ) → n ≤ 256 → play_cost (game_of game) (start (game_of game)) (steps_below (game_of game) n) ≤ 5120 * n
 unfolding steps_below
 steps_cost game valid zero small = omega arith
 steps_cost game valid (suc n) small =
@@ -142,13 +148,13 @@ steps_cost game valid (suc n) small =
     let last = next_cost game valid n at (is_wanted g.dag n) (omega arith) (steps_are_under_way g dag valid.room n).ready in
     omega arith
 
-finish_few : (game : GameParts) → IsGame game → (p : Position) → finish_cost (game_of game) p ≤ 256
+finish_few : (game : GameParts) → IsGame game → (p : Position) → finish_cost (game_of game) p ≤ 4096
 finish_few game valid p =
     let g = game_of game in
     let dag = IsDag-dag_of game.graph valid.valid in
     let small = valid.valid.small in
     let few = size_le_below g.dag.count (set.difference g.dag.outputs p.blue) (record { below = λ w h. dag.outputs_are_vertices w (difference_first g.dag.outputs p.blue w h) }) in
-    omega arith
+    few_times g.store (size (set.difference g.dag.outputs p.blue)) valid.weights.store_most (omega arith)
 
 -- the first plan of a game is a plan
 pub first_is_plan : (game : GameParts) → IsGame game → (ss : List Step) → ss ≡ first_steps (game_of game) → IsNoPlan (game_of game) ss → ⊥

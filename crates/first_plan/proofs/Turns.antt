@@ -65,10 +65,10 @@ module _ (g : PebbleGame) (dag : IsDag g.dag) (room : degree g.dag < g.slots) (v
       pub victim_is : IsLastNeeded g.dag v (set.difference p.red (g.dag.preds v)) (victim g p v)
       victim_is = last_needed_is_last g.dag v (set.difference p.red (g.dag.preds v)) spare_below spare_member.0 spare_member.1
 
-      victim_red : victim g p v ∈ p.red
+      pub victim_red : victim g p v ∈ p.red
       victim_red = difference_first p.red (g.dag.preds v) (victim g p v) victim_is.member
 
-      victim_not_read : victim g p v ∉ g.dag.preds v
+      pub victim_not_read : victim g p v ∉ g.dag.preds v
       victim_not_read = difference_second p.red (g.dag.preds v) (victim g p v) victim_is.member
 
       can_drop : CanDrop g p (victim g p v)

@@ -1,14 +1,16 @@
 -- What the first plan keeps, and that its functions choose what their names say.
 use Rattle.std.specs.Prelude.{◌≡◌, ℕ, ◌<◌, ◌≤◌, true, false}
 use Rattle.std.specs.List.{AllPairs}
-use Rattle.comp_graph.specs.Vertices.{Vertices, ◌∈◌, AllBelow, rising}
+use Rattle.comp_graph.specs.Vertices.{Vertices, ◌∈◌, ◌∉◌, AllBelow, rising}
 use Rattle.comp_graph.specs.Dags.{Dag, IsDag, degree}
 use Rattle.comp_graph.specs.Games.{PebbleGame}
 use Rattle.pebble_rules.specs.Rules.{start}
+use Rattle.pebble_rules.specs.declared.position.Position.{Position}
 use Rattle.normal_steps.specs.Steps.{IsFinishing, work_vertices}
-use Rattle.first_plan.specs.NextUses.{wanted_of, is_later_use, next_use}
-use Rattle.first_plan.specs.Victims.{last_needed, IsLastNeeded}
-use Rattle.first_plan.specs.FirstPlan.{first_steps}
+use Rattle.first_plan.specs.NextUses.{is_wanted, wanted_of, is_later_use, next_use}
+use Rattle.first_plan.specs.Victims.{last_needed, IsLastNeeded, victim}
+use Rattle.first_plan.specs.FirstPlan.{is_short, first_steps}
+use Rattle.first_plan.specs.Ready.{IsReady}
 
 -- with more slots than the degree, the first plan is a normal play from the start that finishes
 abbrev pub FirstPlanFinishes : Type 0
@@ -39,3 +41,8 @@ NextUsesExist = (d : Dag) (v u : ℕ) → IsNextUse d v u (next_use d v u)
 -- a set of vertices with a member has one that is needed last, and `last_needed` is it
 abbrev pub LastNeededIsLast : Type 0
 LastNeededIsLast = (d : Dag) (v : ℕ) (s : Vertices) → AllBelow d.count s → (x : ℕ) → x ∈ s → IsLastNeeded d v s (last_needed d v s)
+
+-- where a turn lacks a slot, the victim is a red vertex that Work(v) does not read
+abbrev pub VictimIsSpare : Type 0
+VictimIsSpare = (g : PebbleGame) → IsDag g.dag → degree g.dag < g.slots → (v : ℕ) → is_wanted g.dag v ≡ true → (p : Position) → IsReady g v p
+    → is_short g p v ≡ true → (victim g p v ∈ p.red) × (victim g p v ∉ g.dag.preds v)

@@ -18,7 +18,7 @@ use std::alloc::Global;
 /// The first plan of a game, with its cost. The live vertices that are no inputs are worked on in rising number. Before each, while the red
 /// vertices, its predecessors and itself are more than the slots, a victim is removed: of the red vertices that are no predecessors of it,
 /// the one whose next use among the vertices still to be worked on lies furthest, where no next use is further than any, and of equally far
-/// ones the greatest. It is spilled if it is not blue and has a next use or is an output, and else dropped. At the end the play finishes,
+/// ones the greatest. It is spilled if it is not blue, and has a next use or is an output; else it is dropped. At the end the play finishes,
 /// and the finish is counted. `NoMemory` may come at any allocation.
 pub fn first<'g>(alloc: Global, game: &'g Game) -> Result<Plan<'g>, NoMemory>
     ensures valid { IfOk result IsPlan }

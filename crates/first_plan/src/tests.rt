@@ -2,7 +2,7 @@
 ghost use Rattle.std.specs.Prelude.{◌≡◌, ◌≤◌, length, IfOk};
 
 use crate::planning::first;
-use comp_graph::{Game, Graph, Label, Node, Op, Operand, Output};
+use comp_graph::{Game, Graph, Label, Node, Op, Operand, Output, Weights};
 use normal_steps::Step::{self, Drop, Spill, Work};
 use std::alloc::{AllocError, Global};
 use std::process::Abort;
@@ -101,7 +101,7 @@ const CHAIN: [Step; 15] = [
     Work(7),
 ];
 
-/// With four slots, 2 alone is saved and loaded again, so that with x and the store of 7 four transfers are paid.
+/// With four slots, 2 alone is saved and loaded again, so that with x and the store of 7 two loads and two stores are paid.
 const ROOMY_CHAIN: [Step; 12] = [
     Work(1),
     Work(2),
@@ -120,7 +120,7 @@ const ROOMY_CHAIN: [Step; 12] = [
 /// With two slots, the first output is saved before it leaves.
 const TWO_SUMS: [Step; 3] = [Work(1), Spill(1), Work(2)];
 
-// Compares the first plan of a graph with the expected steps and cost.
+// Compares the first plan of a graph with the expected steps and cost, where a load costs 2 and a store 3.
 fn compare(
     rt: &impl Abort,
     alloc: Global,
@@ -130,7 +130,7 @@ fn compare(
     cost: u32,
 ) -> Result<(), Fail> {
     assert!(rt; 0 < slots && slots <= 64);
-    match Game::new(graph, slots) {
+    match Game::new(graph, slots, Weights { load: 2, store: 3 }) {
         Ok(game) => {
             let plan = first(alloc, &game)?;
             assert!(rt; plan.steps() == steps);
@@ -143,7 +143,7 @@ fn compare(
 
 #[test]
 fn plans_by_hand(rt: HostRuntime) -> Result<(), Fail> {
-    compare(&rt, rt.alloc(), chain(rt.alloc())?, 3, &CHAIN, 7)?;
-    compare(&rt, rt.alloc(), chain(rt.alloc())?, 4, &ROOMY_CHAIN, 4)?;
-    compare(&rt, rt.alloc(), two_sums(rt.alloc())?, 2, &TWO_SUMS, 3)
+    compare(&rt, rt.alloc(), chain(rt.alloc())?, 3, &CHAIN, 17)?;
+    compare(&rt, rt.alloc(), chain(rt.alloc())?, 4, &ROOMY_CHAIN, 10)?;
+    compare(&rt, rt.alloc(), two_sums(rt.alloc())?, 2, &TWO_SUMS, 8)
 }

@@ -30,8 +30,8 @@ struct Candidate {
 }
 
 /// The step that removes the victim before the turn of a vertex. The victim is, of the red vertices that this one does not read, the one
-/// whose next use lies furthest, where no next use is further than any, and of equally far ones the greatest. It is spilled if it is not blue
-/// and has a next use or is an output, and else dropped. It takes no memory.
+/// whose next use lies furthest, where no next use is further than any, and of equally far ones the greatest. It is spilled if it is not
+/// blue, and has a next use or is an output; else it is dropped. It takes no memory.
 pub fn removal(game: &Game, turn: &Turn, position: &Position) -> Step
     requires turn { IsTurn (dag_of game.now.graph) turn.now.vertex turn.now.readers.now turn.now.ahead }
     requires ready { IsReady (game_of game.now) turn.now.vertex position.now }

@@ -18,7 +18,7 @@ use Rattle.comp_graph.specs.Sets.{membership, has_union}
 use Rattle.pebble_rules.proofs.Possible.{true_or_false}
 use Rattle.comp_graph.proofs.DagLaws.{live_before, live_output, degree_bounds}
 
-none_of : (ys : List ℕ) → IsSubsequence [] ys
+pub none_of : (ys : List ℕ) → IsSubsequence [] ys
 none_of [] = none
 none_of (y ∷ ys) = left_out y (none_of ys)
 
@@ -37,7 +37,7 @@ stay g raw normal debts owed paid vertices follows costs = record {
 
 module _ (g : PebbleGame) (raw normal : Position) (debts : Debts) (f : Follows g raw normal debts) (v : ℕ) where
   -- the load is owed
-  load_owed : v ∈ normal.blue → v ∉ normal.red → Follows g (moved raw (Load v)) normal (record debts { loads = insert debts.loads v })
+  pub load_owed : v ∈ normal.blue → v ∉ normal.red → Follows g (moved raw (Load v)) normal (record debts { loads = insert debts.loads v })
   load_owed blue not_red = record {
     stores_red = f.stores_red;
     stores_not_blue = f.stores_not_blue;
@@ -48,7 +48,7 @@ module _ (g : PebbleGame) (raw normal : Position) (debts : Debts) (f : Follows g
   }
 
   -- the load changes nothing
-  load_free : v ∈ raw.blue → (v ∉ normal.blue) ⊎ ((v ∈ normal.red) ⊎ (v ∈ debts.loads)) → Follows g (moved raw (Load v)) normal debts
+  pub load_free : v ∈ raw.blue → (v ∉ normal.blue) ⊎ ((v ∈ normal.red) ⊎ (v ∈ debts.loads)) → Follows g (moved raw (Load v)) normal debts
   load_free here why = record {
     stores_red = f.stores_red;
     stores_not_blue = f.stores_not_blue;
@@ -59,7 +59,7 @@ module _ (g : PebbleGame) (raw normal : Position) (debts : Debts) (f : Follows g
   }
 
   -- the store is owed
-  store_owed : v ∈ normal.red → v ∉ normal.blue → Follows g (moved raw (Store v)) normal (record debts { stores = insert debts.stores v })
+  pub store_owed : v ∈ normal.red → v ∉ normal.blue → Follows g (moved raw (Store v)) normal (record debts { stores = insert debts.stores v })
   store_owed red not_blue = record {
     stores_red = λ w h. let old = f.stores_red w in grind (arith, membership);
     stores_not_blue = λ w h. let old = f.stores_not_blue w in grind (arith, membership);
@@ -70,7 +70,7 @@ module _ (g : PebbleGame) (raw normal : Position) (debts : Debts) (f : Follows g
   }
 
   -- the store changes nothing
-  store_free : v ∈ raw.red → (v ∉ normal.red) ⊎ ((v ∈ normal.blue) ⊎ (v ∈ debts.stores)) → Follows g (moved raw (Store v)) normal debts
+  pub store_free : v ∈ raw.red → (v ∉ normal.red) ⊎ ((v ∈ normal.blue) ⊎ (v ∈ debts.stores)) → Follows g (moved raw (Store v)) normal debts
   store_free here why = record {
     stores_red = f.stores_red;
     stores_not_blue = f.stores_not_blue;
@@ -80,7 +80,7 @@ module _ (g : PebbleGame) (raw normal : Position) (debts : Debts) (f : Follows g
     blue = λ w live h. let old = f.blue w live in let held = f.red w live in let owed = f.loads_blue w in grind (arith, membership);
   }
 
-  drop_red_free : Follows g (moved raw (DropRed v)) normal debts
+  pub drop_red_free : Follows g (moved raw (DropRed v)) normal debts
   drop_red_free = record {
     stores_red = f.stores_red;
     stores_not_blue = f.stores_not_blue;
@@ -90,7 +90,7 @@ module _ (g : PebbleGame) (raw normal : Position) (debts : Debts) (f : Follows g
     blue = f.blue;
   }
 
-  drop_blue_free : Follows g (moved raw (DropBlue v)) normal debts
+  pub drop_blue_free : Follows g (moved raw (DropBlue v)) normal debts
   drop_blue_free = record {
     stores_red = f.stores_red;
     stores_not_blue = f.stores_not_blue;
@@ -101,7 +101,7 @@ module _ (g : PebbleGame) (raw normal : Position) (debts : Debts) (f : Follows g
   }
 
   -- a computation of a vertex that is not live, or that is red or owed already, changes nothing
-  compute_free : (is_live g.dag v ≡ false) ⊎ (v ∈ union normal.red debts.loads) → Follows g (moved raw (Compute v)) normal debts
+  pub compute_free : (is_live g.dag v ≡ false) ⊎ (v ∈ union normal.red debts.loads) → Follows g (moved raw (Compute v)) normal debts
   compute_free why = record {
     stores_red = f.stores_red;
     stores_not_blue = f.stores_not_blue;
@@ -140,6 +140,30 @@ store_answered g raw normal debts f v here =
       | inr why ↦ stay g (moved raw (Store v)) normal debts debts g.store [] (store_free g raw normal debts f v here why) (omega arith)
     ]
 
+-- ---- a removal of a red pebble that the pebbling does without
+
+module _ (g : PebbleGame) (raw : Position) where
+  pub drop_follows : (normal : Position) (debts : Debts) → Follows g raw normal debts → (u : ℕ) → u ∉ raw.red → u ∉ debts.stores → Follows g raw (stepped g normal (Drop u)) debts
+  drop_follows normal debts f u not_raw not_owed = record {
+    stores_red = λ w h. let old = f.stores_red w in grind (arith, membership);
+    stores_not_blue = f.stores_not_blue;
+    loads_blue = f.loads_blue;
+    loads_not_red = λ w h. let old = f.loads_not_red w in grind (arith, membership);
+    red = λ w live h. let old = f.red w live in grind (arith, membership);
+    blue = f.blue;
+  }
+
+  pub spill_follows : (normal : Position) (debts : Debts) → Follows g raw normal debts → (u : ℕ) → u ∉ raw.red → u ∈ debts.stores
+      → Follows g raw (stepped g normal (Spill u)) (record debts { stores = remove debts.stores u })
+  spill_follows normal debts f u not_raw owed = record {
+    stores_red = λ w h. let old = f.stores_red w in grind (arith, membership);
+    stores_not_blue = λ w h. let old = f.stores_not_blue w in grind (arith, membership);
+    loads_blue = λ w h. let old = f.loads_blue w in grind (arith, membership);
+    loads_not_red = λ w h. let old = f.loads_not_red w in grind (arith, membership);
+    red = λ w live h. let old = f.red w live in grind (arith, membership);
+    blue = λ w live h. let old = f.blue w live in grind (arith, membership);
+  }
+
 -- ---- a computation
 
 module _ (g : PebbleGame) (dag : IsDag g.dag) (raw : Position) (v : ℕ) (live : is_live g.dag v ≡ true) (move : IsMove g raw (Compute v)) where
@@ -149,7 +173,7 @@ module _ (g : PebbleGame) (dag : IsDag g.dag) (raw : Position) (v : ℕ) (live :
 
   -- ---- where there is room
 
-  work_follows : (normal : Position) (debts : Debts) → Follows g raw normal debts → v ∉ debts.loads
+  pub work_follows : (normal : Position) (debts : Debts) → Follows g raw normal debts → v ∉ debts.loads
       → Follows g (moved raw (Compute v)) (stepped g normal (Work v)) (record debts { loads = difference debts.loads (g.dag.preds v) })
   work_follows normal debts f not_owed = record {
     stores_red = λ w h. let old = f.stores_red w in grind (arith, membership);
@@ -160,7 +184,7 @@ module _ (g : PebbleGame) (dag : IsDag g.dag) (raw : Position) (v : ℕ) (live :
     blue = f.blue;
   }
 
-  work_is_step : (normal : Position) (debts : Debts) → Follows g raw normal debts → v ∉ normal.red → size (worked g normal.red v) ≤ g.slots → CanWork g normal v
+  pub work_is_step : (normal : Position) (debts : Debts) → Follows g raw normal debts → v ∉ normal.red → size (worked g normal.red v) ≤ g.slots → CanWork g normal v
   work_is_step normal debts f not_red room = record {
     live = live;
     no_input = move.needs.no_input;
@@ -173,7 +197,7 @@ module _ (g : PebbleGame) (dag : IsDag g.dag) (raw : Position) (v : ℕ) (live :
   loaded_owed : (normal : Position) (debts : Debts) → Follows g raw normal debts → IsWithin (difference (g.dag.preds v) normal.red) (intersection debts.loads (g.dag.preds v))
   loaded_owed normal debts f w h = let held = preds_at_hand normal debts f w in grind (arith, membership)
 
-  work_pays : (normal : Position) (debts : Debts) → Follows g raw normal debts
+  pub work_pays : (normal : Position) (debts : Debts) → Follows g raw normal debts
       → g.load * size (difference (g.dag.preds v) normal.red) + g.load * size (difference debts.loads (g.dag.preds v)) ≤ g.load * size debts.loads
   work_pays normal debts f =
       let less = mul-le-mul_left g.load (size_within _ _ (loaded_owed normal debts f)) in
@@ -196,7 +220,7 @@ module _ (g : PebbleGame) (dag : IsDag g.dag) (raw : Position) (v : ℕ) (live :
   abbrev Victim : Position → ℕ → Type 0
   Victim normal u = CanDrop g normal u × (u ∉ raw.red) × (0 < size normal.red)
 
-  missing_raw : (normal : Position) (u : ℕ) → u ∈ worked g normal.red v → u ∉ insert raw.red v → (u ∉ raw.red) × (u ∈ normal.red)
+  pub missing_raw : (normal : Position) (u : ℕ) → u ∈ worked g normal.red v → u ∉ insert raw.red v → (u ∉ raw.red) × (u ∈ normal.red)
   missing_raw normal u held missing = let red = move.needs.preds_red u in (grind (arith, membership), grind (arith, membership))
 
   victim : (normal : Position) → g.slots < size (worked g normal.red v) → (u : ℕ) × Victim normal u
@@ -209,27 +233,6 @@ module _ (g : PebbleGame) (dag : IsDag g.dag) (raw : Position) (v : ℕ) (live :
       let rest = size_union_le normal.red (g.dag.preds v) in
       let some = size_remove normal.red m.0 is.1 in
       (m.0, (record { red = is.1; crowded = omega arith }, is.0, omega arith))
-
-  drop_follows : (normal : Position) (debts : Debts) → Follows g raw normal debts → (u : ℕ) → u ∉ raw.red → u ∉ debts.stores → Follows g raw (stepped g normal (Drop u)) debts
-  drop_follows normal debts f u not_raw not_owed = record {
-    stores_red = λ w h. let old = f.stores_red w in grind (arith, membership);
-    stores_not_blue = f.stores_not_blue;
-    loads_blue = f.loads_blue;
-    loads_not_red = λ w h. let old = f.loads_not_red w in grind (arith, membership);
-    red = λ w live h. let old = f.red w live in grind (arith, membership);
-    blue = f.blue;
-  }
-
-  spill_follows : (normal : Position) (debts : Debts) → Follows g raw normal debts → (u : ℕ) → u ∉ raw.red → u ∈ debts.stores
-      → Follows g raw (stepped g normal (Spill u)) (record debts { stores = remove debts.stores u })
-  spill_follows normal debts f u not_raw owed = record {
-    stores_red = λ w h. let old = f.stores_red w in grind (arith, membership);
-    stores_not_blue = λ w h. let old = f.stores_not_blue w in grind (arith, membership);
-    loads_blue = λ w h. let old = f.loads_blue w in grind (arith, membership);
-    loads_not_red = λ w h. let old = f.loads_not_red w in grind (arith, membership);
-    red = λ w live h. let old = f.red w live in grind (arith, membership);
-    blue = λ w live h. let old = f.blue w live in grind (arith, membership);
-  }
 
   drop_first : (normal : Position) (debts : Debts) (u : ℕ) → CanDrop g normal u
       → IsAnswered g (moved raw (Compute v)) (stepped g normal (Drop u)) debts 0 (v ∷ [])
@@ -258,7 +261,7 @@ module _ (g : PebbleGame) (dag : IsDag g.dag) (raw : Position) (v : ℕ) (live :
     works = rest.works;
   }
 
-  still_not_red : (s : Vertices) (u w : ℕ) → w ∉ s → w ∉ remove s u
+  pub still_not_red : (s : Vertices) (u w : ℕ) → w ∉ s → w ∉ remove s u
   still_not_red s u w h = grind (arith, membership)
 
   fits_or_not : (a b : ℕ) → (a ≤ b) ⊎ (b < a)
@@ -282,11 +285,11 @@ module _ (g : PebbleGame) (dag : IsDag g.dag) (raw : Position) (v : ℕ) (live :
               | inl owed ↦
                   spill_first normal debts u.0 (record { drop = can; not_blue = f.stores_not_blue u.0 owed }) owed
                   (room_made turns (stepped g normal (Spill u.0)) (record debts { stores = remove debts.stores u.0 })
-                  (omega arith) (spill_follows normal debts f u.0 u.1.1 owed) (still_not_red normal.red u.0 v not_red) not_owed)
+                  (omega arith) (spill_follows g raw normal debts f u.0 u.1.1 owed) (still_not_red normal.red u.0 v not_red) not_owed)
               | inr free ↦
                   drop_first normal debts u.0 can
                   (room_made turns (stepped g normal (Drop u.0)) debts
-                  (omega arith) (drop_follows normal debts f u.0 u.1.1 free) (still_not_red normal.red u.0 v not_red) not_owed)
+                  (omega arith) (drop_follows g raw normal debts f u.0 u.1.1 free) (still_not_red normal.red u.0 v not_red) not_owed)
             ]
       ]
 
@@ -330,7 +333,7 @@ pub append_cost : (g : PebbleGame) (p : Position) (ss ts : List Step) → play_c
 append_cost g p [] ts = omega arith
 append_cost g p (s ∷ ss) ts = omega (arith, append_cost g (stepped g p s) ss ts)
 
-append_works : (ss ts : List Step) (us vs : List ℕ) → IsSubsequence (work_vertices ss) us → IsSubsequence (work_vertices ts) vs → IsSubsequence (work_vertices (ss ++ ts)) (us ++ vs)
+pub append_works : (ss ts : List Step) (us vs : List ℕ) → IsSubsequence (work_vertices ss) us → IsSubsequence (work_vertices ts) vs → IsSubsequence (work_vertices (ss ++ ts)) (us ++ vs)
 append_works ss ts us vs h k = subst (λ ws. IsSubsequence ws (us ++ vs)) (sym (works_append ss ts)) (append_subsequences _ us h)
   where
     works_append : (ss ts : List Step) → work_vertices (ss ++ ts) ≡ work_vertices ss ++ work_vertices ts
@@ -357,7 +360,7 @@ then_answered g middle raw normal debts paid more us vs first second = record {
   works = append_works first.steps second.steps us vs first.works second.works;
 }
 
-computed_append : (m : Move) (vs : List ℕ) → computed_by m [] ++ vs ≡ computed_by m vs
+pub computed_append : (m : Move) (vs : List ℕ) → computed_by m [] ++ vs ≡ computed_by m vs
 computed_append (Load v) vs = refl
 computed_append (Store v) vs = refl
 computed_append (Compute v) vs = refl
@@ -374,13 +377,13 @@ each_pebbling_is_answered g dag raw normal debts f (m ∷ ms) h =
 
 -- ---- the finish
 
-finish_paid : (g : PebbleGame) (raw normal : Position) (owed : Debts) → Follows g raw normal owed → IsWithin g.dag.outputs raw.blue → finish_cost g normal ≤ weight g owed
+pub finish_paid : (g : PebbleGame) (raw normal : Position) (owed : Debts) → Follows g raw normal owed → IsWithin g.dag.outputs raw.blue → finish_cost g normal ≤ weight g owed
 finish_paid g raw normal owed f done =
     let stores = mul-le-mul_left g.store (size_within (difference g.dag.outputs normal.blue) owed.stores (λ w h.
     let live = live_output g.dag w in let blue = done w in let held = f.blue w in grind (arith, membership))) in
     omega arith
 
-can_finish : (g : PebbleGame) (raw normal : Position) (owed : Debts) → Follows g raw normal owed → IsWithin g.dag.outputs raw.blue → CanFinish g normal
+pub can_finish : (g : PebbleGame) (raw normal : Position) (owed : Debts) → Follows g raw normal owed → IsWithin g.dag.outputs raw.blue → CanFinish g normal
 can_finish g raw normal owed f done w h =
     let live = live_output g.dag w in let blue = done w in let held = f.blue w in let red = f.stores_red w in grind (arith, membership)
 

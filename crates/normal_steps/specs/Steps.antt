@@ -1,6 +1,7 @@
 -- Normal steps and normal plays, this project's own: a planner that makes these steps alone loses nothing against any pebbling by the rules
 -- of 1981. Work(v) loads the missing predecessors of v and computes v; Drop(u) removes a red pebble; Spill(u) stores u and removes its red
--- pebble. A pebble is removed only where it is in the way of a step that might come. A position's pebbles stand on vertices of the graph.
+-- pebble. A pebble is removed only where it is in the way of a step that might come. The positions of plays from the start have pebbles
+-- on vertices of the graph alone; of others nothing is asked, so Drop and Spill remove any red pebble, wherever it stands.
 use Rattle.std.specs.Prelude.{◌≡◌, ℕ, ◌+◌, ◌*◌, ◌≤◌, ◌<◌, List, [], ◌∷◌, true, ⊤}
 use Rattle.std.specs.FinSet as set
 use Rattle.comp_graph.specs.Vertices.{Vertices, ◌∈◌, ◌∉◌, IsWithin, size}

@@ -11,7 +11,7 @@ use comp_graph::Game;
 use pebble_rules::Position;
 use std::marker::Model;
 
-/// A normal play from the start of a game that finishes, with its cost in transfers, the finish counted. Contracts see the game, the list
+/// A normal play from the start of a game that finishes, with its cost by the game's weights, the finish counted. Contracts see the game, the list
 /// of the steps and the cost.
 #[derive(Drop)]
 pub struct Plan<'g> {
@@ -59,7 +59,7 @@ impl<'g> Plan<'g> {
         &self.steps
     }
 
-    /// The cost of the steps and of the finish, in transfers.
+    /// The cost of the steps and of the finish, by the game's weights.
     pub fn total(&self) -> u32
         ensures value { result ≡ self.now.total }
         ensures valid { IsPlan self.now }

@@ -83,20 +83,24 @@ pub fn after(game: &Game, position: &Position, step: Step) -> Position
     }
 }
 
-/// What a legal step costs, in transfers: `Work(v)` a load of each predecessor of v that is not red, `Drop(u)` nothing, and `Spill(u)` a
-/// store. It takes no memory.
+/// What a legal step costs by the game's weights: `Work(v)` a load of each predecessor of v that is not red, `Drop(u)` nothing, and
+/// `Spill(u)` a store. It takes no memory.
 pub fn cost(game: &Game, position: &Position, step: Step) -> u32
     requires { IsStep (game_of game.now) position.now step }
     ensures { result ≡ step_cost (game_of game.now) position.now step }
 {
+    let weights = game.weights();
     match step {
-        Step::Work(v) => game.graph().preds(v).minus(&position.red).count() as u32,
+        Step::Work(v) => {
+            let missing = game.graph().preds(v).minus(&position.red);
+            u32::from(weights.load) * u32::from(missing.count())
+        }
         Step::Drop(_) => 0,
-        Step::Spill(_) => 1,
+        Step::Spill(_) => u32::from(weights.store),
     }
 }
 
-/// What it costs to finish at a position: a store of each output that is not blue. None comes exactly where some output has neither
+/// What it costs to finish at a position, by the game's weights: a store of each output that is not blue. None comes exactly where some output has neither
 /// pebble, so that a play cannot finish there. It takes no memory.
 pub fn finish(game: &Game, position: &Position) -> Option<u32>
     ensures bare { IfNone result (HasBareOutput (game_of game.now) position.now) }
@@ -107,6 +111,9 @@ pub fn finish(game: &Game, position: &Position) -> Option<u32>
     let bare = outputs.minus(&position.red.union(&position.blue));
     match bare.least() {
         Some(_) => None,
-        None => Some(outputs.minus(&position.blue).count() as u32),
+        None => {
+            let missing = outputs.minus(&position.blue);
+            Some(u32::from(game.weights().store) * u32::from(missing.count()))
+        }
     }
 }

@@ -5,7 +5,7 @@ use crate::legal_steps::Steps;
 use crate::plan::Plan;
 use crate::step::Step::{self, Drop, Spill, Work};
 use crate::stepping::{after, cost, finish, legal};
-use comp_graph::{Game, Graph, Label, Node, Op, Operand, Output, VertexSet};
+use comp_graph::{Game, Graph, Label, Node, Op, Operand, Output, VertexSet, Weights};
 use pebble_rules::Position;
 use std::alloc::{AllocError, Global};
 use std::process::Abort;
@@ -66,13 +66,13 @@ const ONE_SUM: [Row; 10] = [
         red: 0b10,
         blue: 0b01,
         steps: &[Drop(1), Spill(1)],
-        finish: Some(1),
+        finish: Some(3),
     },
     Row {
         red: 0b11,
         blue: 0b01,
         steps: &[Drop(0), Drop(1), Spill(1)],
-        finish: Some(1),
+        finish: Some(3),
     },
     Row {
         red: 0b10,
@@ -102,7 +102,7 @@ const ONE_SUM: [Row; 10] = [
         red: 0b11,
         blue: 0b00,
         steps: &[Drop(0), Drop(1), Spill(0), Spill(1)],
-        finish: Some(1),
+        finish: Some(3),
     },
     Row {
         red: 0b00,
@@ -179,13 +179,13 @@ const DIAMOND: [Row; 12] = [
         red: 0b1110,
         blue: 0b0001,
         steps: &[Drop(1), Drop(2), Drop(3), Spill(1), Spill(2), Spill(3)],
-        finish: Some(1),
+        finish: Some(3),
     },
     Row {
         red: 0b1000,
         blue: 0b0001,
         steps: &[Work(1), Work(2), Drop(3), Spill(3)],
-        finish: Some(1),
+        finish: Some(3),
     },
     Row {
         red: 0b0000,
@@ -277,13 +277,13 @@ const MIXED: [Row; 8] = [
         red: 0b11011,
         blue: 0b00011,
         steps: &[Drop(0), Drop(1), Drop(3), Drop(4), Spill(3), Spill(4)],
-        finish: Some(2),
+        finish: Some(6),
     },
     Row {
         red: 0b11000,
         blue: 0b00011,
         steps: &[Drop(3), Drop(4), Spill(3), Spill(4)],
-        finish: Some(2),
+        finish: Some(6),
     },
     Row {
         red: 0b10100,
@@ -299,10 +299,10 @@ const MIXED: [Row; 8] = [
     },
 ];
 
-// The game with a number of slots that is above the degree.
+// The game with a number of slots that is above the degree, where a load costs 2 and a store 3.
 fn with_slots(rt: &impl Abort, graph: Graph, slots: u16) -> Game {
     assert!(rt; 0 < slots && slots <= 64);
-    match Game::new(graph, slots) {
+    match Game::new(graph, slots, Weights { load: 2, store: 3 }) {
         Ok(game) => game,
         Err(_) => panic!(rt; "there are more slots than the degree"),
     }
@@ -359,7 +359,7 @@ fn plans_of_one_sum(rt: HostRuntime) -> Result<(), Fail> {
     assert!(rt; first.as_slice() == [Work(1)].as_slice());
     match Plan::new(&game, vec![in rt.alloc(); Work(1)]?) {
         Some(plan) => {
-            assert_eq!(rt; plan.total(), 2);
+            assert_eq!(rt; plan.total(), 5);
             assert!(rt; plan.steps() == [Work(1)].as_slice());
             assert_eq!(rt; plan.game().slots(), 2);
         }
@@ -372,14 +372,14 @@ fn plans_of_one_sum(rt: HostRuntime) -> Result<(), Fail> {
 
 /// The steps of a play on the diamond, and what each of them costs: the loads of the missing predecessors, or a store.
 const PLAY: [(Step, u32); 8] = [
-    (Work(1), 1),
+    (Work(1), 2),
     (Work(2), 0),
-    (Spill(1), 1),
+    (Spill(1), 3),
     (Drop(0), 0),
-    (Work(3), 1),
+    (Work(3), 2),
     (Drop(2), 0),
     (Drop(1), 0),
-    (Work(2), 1),
+    (Work(2), 2),
 ];
 
 #[test]

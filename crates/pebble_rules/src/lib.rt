@@ -13,7 +13,7 @@ pub mod replaying;
 mod tests;
 
 pub use moves::Move;
-pub use moving::apply;
+pub use moving::{apply, moved};
 pub use position::Position;
 pub use refusal::{Illegal, Rule};
 pub use replaying::{BadMove, Replayed, replay};

@@ -26,7 +26,7 @@ pub fn apply(game: &Game, position: &Position, mv: Move) -> Result<Position, Ill
             vertex,
         });
     }
-    let after = position_after(position, mv);
+    let after = moved(position, mv);
     if after.red.count() > slots {
         return Err(Illegal {
             rule: Rule::RedPebbles,
@@ -49,8 +49,8 @@ fn has_needs(game: &Game, position: &Position, mv: Move) -> bool
     }
 }
 
-// The position after a move, whether it is one of the game or not.
-fn position_after(position: &Position, mv: Move) -> Position
+/// The position after a move: it places or removes one pebble, whether the game allows it or not. It takes no memory.
+pub fn moved(position: &Position, mv: Move) -> Position
     requires { vertex_of mv < 256 }
     ensures { result ≡ moved position.now mv }
 {

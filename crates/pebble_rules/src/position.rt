@@ -4,17 +4,59 @@ ghost use Rattle.comp_graph.specs.Vertices.{AllBelow};
 ghost use Rattle.comp_graph.specs.Words.{words_of};
 ghost use Rattle.comp_graph.specs.Games.{game_of};
 ghost use Rattle.pebble_rules.specs.Rules.{start};
-ghost use Rattle.pebble_rules.specs.Positions.{position_order};
+ghost use Rattle.std.specs.Prelude.{refl};
+ghost use Rattle.std.specs.Ordering.{eq_by_cmp, as_partial_cmp};
+ghost use Rattle.std.specs.Cmp.{partial_equiv_from_equiv, partial_order_from_total};
+ghost use Rattle.std.proofs.lemmas.Cmp.{eq_by_cmp_equiv};
+ghost use Rattle.pebble_rules.specs.Positions.{position_order, position_order_total};
 
 use comp_graph::{Game, VertexSet};
 use std::cmp::Ordering;
 
 /// The vertices with a red pebble (their values are in fast memory) and those with a blue one (in slow memory). A vertex may have
-/// both pebbles, one or none.
-#[derive(Clone, Copy, PartialEq, Eq)]
+/// both pebbles, one or none. Positions are compared by [`Position::order`].
+#[derive(Clone, Copy)]
 pub struct Position {
     pub red: VertexSet,
     pub blue: VertexSet,
+}
+
+impl PartialEq for Position {
+    ghost eq = { eq_by_cmp position_order };
+
+    ghost laws = { partial_equiv_from_equiv (eq_by_cmp_equiv position_order_total) };
+
+    fn eq(&self, other: &Position) -> bool {
+        self.order(other).is_eq()
+    }
+}
+
+impl Eq for Position {
+    ghost laws = { eq_by_cmp_equiv position_order_total };
+}
+
+impl PartialOrd for Position {
+    ghost partial_cmp = { as_partial_cmp position_order };
+
+    ghost laws = { partial_order_from_total position_order_total };
+
+    fn partial_cmp(&self, other: &Position) -> Option<Ordering> {
+        Some(self.order(other))
+    }
+}
+
+impl Ord for Position {
+    ghost cmp = { position_order };
+
+    ghost total = { position_order_total };
+
+    ghost matches_partial_cmp = { λ a b. refl };
+
+    ghost matches_eq = { λ a b. refl };
+
+    fn cmp(&self, other: &Position) -> Ordering {
+        self.order(other)
+    }
 }
 
 impl Position {
@@ -47,6 +89,5 @@ fn words(set: &VertexSet) -> [u64; 4]
     ensures words { result ≡ words_of set.now }
     ensures bounded { AllBelow 256 set.now }
 {
-    prove!(set.count() <= 256);
     [set.word(0), set.word(1), set.word(2), set.word(3)]
 }

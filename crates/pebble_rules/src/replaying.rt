@@ -1,6 +1,6 @@
 //! Lists of moves from the start of the game.
 ghost use Rattle.std.specs.Prelude.{◌≡◌, ◌<◌, ◌≤◌, length, IfOk, IfErr, All};
-ghost use Rattle.comp_graph.specs.Games.{GameParts, game_of};
+ghost use Rattle.comp_graph.specs.Games.{AreWeights, GameParts, game_of};
 ghost use Rattle.pebble_rules.specs.Rules.{move_cost};
 ghost use Rattle.pebble_rules.specs.Refusals.{vertex_of, IsReplayed, IsFirstBad};
 
@@ -8,9 +8,9 @@ use crate::moves::Move;
 use crate::moving::apply;
 use crate::position::Position;
 use crate::refusal::Illegal;
-use comp_graph::Game;
+use comp_graph::{Game, Weights};
 
-/// Where a list of moves leads from the start, and what it costs: the number of its loads and stores.
+/// Where a list of moves leads from the start, and what it costs: the sum of its loads and stores, by the game's weights.
 #[derive(Clone, Copy, PartialEq, Eq)]
 pub struct Replayed {
     pub position: Position,
@@ -25,10 +25,11 @@ pub struct BadMove {
 }
 
 /// Plays the moves from the start of the game. `BadMove` comes exactly where they are no pebbling, and names the first move that is
-/// refused. The moves' vertices are those of the graph, and there are at most 4,000,000,000 moves. It takes no memory.
+/// refused. The moves' vertices are those of the graph, and there are at most 250,000,000 moves, so that the cost is a
+/// number of 32 bits at any weights. It takes no memory.
 pub fn replay(game: &Game, moves: &[Move]) -> Result<Replayed, BadMove>
     requires vertices { All (λ m. vertex_of m < length game.now.graph.nodes) moves.now }
-    requires few { length moves.now ≤ 4000000000 }
+    requires few { length moves.now ≤ 250000000 }
     ensures replayed { IfOk result (λ end. IsReplayed (game_of game.now) moves.now end) }
     ensures bad { IfErr result (λ bad. IsFirstBad (game_of game.now) moves.now bad) }
 {
@@ -39,18 +40,20 @@ pub fn replay(game: &Game, moves: &[Move]) -> Result<Replayed, BadMove>
             Ok(after) => position = after,
             Err(why) => return Err(BadMove { at: at as u32, why }),
         }
-        cost += transfers(*mv);
+        cost += cost_of(*mv, game.weights());
     }
     Ok(Replayed { position, cost })
 }
 
-// How many words a move transfers between the memories, which is its cost in every game.
-fn transfers(mv: Move) -> u32
-    ensures cost { (g : GameParts) → result ≡ move_cost (game_of g) mv }
-    ensures one { result ≤ 1 }
+// What a move costs in a game of these weights.
+fn cost_of(mv: Move, weights: Weights) -> u32
+    requires { AreWeights weights }
+    ensures cost { (g : GameParts) → weights ≡ g.weights → result ≡ move_cost (game_of g) mv }
+    ensures most { result ≤ 16 }
 {
     match mv {
-        Move::Load(_) | Move::Store(_) => 1,
+        Move::Load(_) => u32::from(weights.load),
+        Move::Store(_) => u32::from(weights.store),
         _ => 0,
     }
 }

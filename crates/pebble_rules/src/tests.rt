@@ -1,10 +1,10 @@
 //! Worked examples with values from outside: what the clauses are meant to say.
 use crate::moves::Move;
-use crate::moving::apply;
+use crate::moving::{apply, moved};
 use crate::position::Position;
 use crate::refusal::{Illegal, Rule};
 use crate::replaying::{BadMove, replay};
-use comp_graph::{Game, Graph, Label, Node, Op, Operand, Output, VertexSet};
+use comp_graph::{Game, Graph, Label, Node, Op, Operand, Output, VertexSet, Weights};
 use std::alloc::{AllocError, Global};
 use std::cmp::Ordering;
 use std::process::Abort;
@@ -61,9 +61,9 @@ fn spare_input(alloc: Global) -> Result<Graph, AllocError> {
     Ok(Graph::new(Label::new(b"r".to_vec(alloc)?), nodes, names, outputs))
 }
 
-// The game with two slots on a graph whose degree is 1.
+// The game with two slots on a graph whose degree is 1, where a load costs 2 and a store 3.
 fn with_two_slots(rt: &impl Abort, graph: Graph) -> Game {
-    match Game::new(graph, 2) {
+    match Game::new(graph, 2, Weights { load: 2, store: 3 }) {
         Ok(game) => game,
         Err(_) => panic!(rt; "the degree is 1"),
     }
@@ -88,7 +88,10 @@ fn moves_from_the_start(rt: HostRuntime) -> Result<(), Fail> {
     for (mv, rule) in FROM_START {
         assert!(rt; mv.vertex() < game.graph().len());
         match apply(&game, &start, mv) {
-            Ok(_) => assert!(rt; rule.is_none()),
+            Ok(after) => {
+                assert!(rt; rule.is_none());
+                assert!(rt; after == moved(&start, mv));
+            }
             Err(
                 Illegal {
                     rule: broken,
@@ -116,7 +119,9 @@ fn played(rt: &impl Abort, game: &Game, moves: &[Move]) -> Result<(u16, u32), Ba
 fn lists_of_moves(rt: HostRuntime) -> Result<(), Fail> {
     let game = with_two_slots(&rt, one_sum(rt.alloc())?);
     let again = [Move::Load(0), Move::Compute(1), Move::Load(0)];
-    assert_eq!(rt; played(&rt, &game, &again), Ok((2, 2)));
+    assert_eq!(rt; played(&rt, &game, &again), Ok((2, 4)));
+    let stored = [Move::Load(0), Move::Compute(1), Move::Store(1)];
+    assert_eq!(rt; played(&rt, &game, &stored), Ok((2, 5)));
     assert_eq!(rt; played(&rt, &game, &[]), Ok((0, 0)));
     let early = [Move::Compute(1), Move::Load(0)];
     let why = Illegal {
@@ -164,7 +169,11 @@ fn position_of([r0, r1, b0, b1]: [u64; 4]) -> Position {
 #[test]
 fn orders(rt: HostRuntime) -> Result<(), Fail> {
     for (first, second, order) in ORDERS {
-        assert!(rt; position_of(first).order(&position_of(second)) == order);
+        let (first, second) = (position_of(first), position_of(second));
+        assert!(rt; first.order(&second) == order);
+        assert!(rt; first.cmp(&second) == order);
+        assert!(rt; (first == second) == order.is_eq());
+        assert!(rt; (first < second) == order.is_lt());
     }
     Ok(())
 }

@@ -7,7 +7,7 @@ use Rattle.comp_graph.specs.declared.node.Operand.TheVariants.{Vertex, Const as 
 use Rattle.comp_graph.specs.declared.node.Node.{Node}
 use Rattle.comp_graph.specs.declared.node.Output.{Output}
 use Rattle.comp_graph.specs.Operations.{arity_of}
-use Rattle.comp_graph.specs.Graphs.{GraphParts, operands_of}
+use Rattle.comp_graph.specs.Graphs.{GraphParts, IsGraph, operands_of}
 use Rattle.pebble_rules.specs.declared.moves.Move.{Move}
 use Rattle.pebble_rules.specs.declared.moves.Move.TheVariants.{Load as LoadMove, Store as StoreMove, Compute, DropRed, DropBlue}
 use Rattle.scratch_machine.specs.declared.code.Source.{Source}
@@ -120,3 +120,14 @@ abbrev pub CodeComputesOutputs : Type 0
 CodeComputesOutputs = (g : GraphParts) (c : CodeParts) (ms : List Move) → IsCode c → CodePlays g c ms
     → (inputs : List ℤ) → length inputs ≡ length g.names → (value : ℕ → ℤ) → AreValues g inputs value
     → run c inputs ≡ Ok (record { outputs = output_values g value; loads = loads ms; stores = stores ms })
+
+-- the vertices have values on these inputs, and the run of the code gives those of the outputs, with this many loads and stores
+pub record GivesOutputs (g : GraphParts) (c : CodeParts) (inputs : List ℤ) (loaded saved : ℕ) : Type 0 where
+  pub value : ℕ → ℤ
+  pub values : AreValues g inputs value
+  pub runs : run c inputs ≡ Ok (record { outputs = output_values g value; loads = loaded; stores = saved })
+
+-- so a code that plays a list of moves runs to its end on every list of as many values as there are inputs
+abbrev pub CodesRun : Type 0
+CodesRun = (g : GraphParts) (c : CodeParts) (ms : List Move) → IsGraph g → IsCode c → CodePlays g c ms
+    → (inputs : List ℤ) → length inputs ≡ length g.names → GivesOutputs g c inputs (loads ms) (stores ms)

@@ -40,7 +40,7 @@ pub struct OutWord {
     pub word: u16,
 }
 
-/// A code: how many slots and words it uses, the names of its inputs, its outputs, and its instructions in order. The k-th input's
+/// A code: how many slots and words it has (it need not name all of them), the names of its inputs, its outputs, and its instructions in order. The k-th input's
 /// value stands in word k at the start. There are from 1 to 64 slots and at most 256 words, no more inputs than words, and each slot
 /// and word that is named is there. Contracts see it as a record of numbers and lists. Code is this project's own.
 #[derive(Drop)]

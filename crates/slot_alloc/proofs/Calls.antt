@@ -17,7 +17,7 @@ use Rattle.normal_steps.specs.Plans.{PlanParts, IsPlan}
 use Rattle.scratch_machine.specs.declared.code.Instr.{Instr}
 use Rattle.scratch_machine.specs.declared.code.OutWord.{OutWord}
 use Rattle.scratch_machine.specs.Codes.{CodeParts}
-use Rattle.slot_alloc.specs.Emitted.{Layout, emitted, laid_all, first_layout, output_words, code_of}
+use Rattle.slot_alloc.specs.Emitted.{Layout, emitted, layout_after_all, first_layout, output_words, code_of}
 use Rattle.slot_alloc.specs.PlanCode.{plan_moves}
 
 -- ---- a move for each member of a set, in rising number
@@ -90,7 +90,7 @@ made slots words inputs outputs code = record { slots = slots; words = words; in
 
 -- it is the code of the moves, where its parts are those of the emitted code
 pub code_made : (g : GraphParts) (slots : ℕ) (ms : List Move) (l : Layout) (inputs : List (List ℕ)) (outputs : List OutWord) (code : List Instr)
-    → l ≡ laid_all (first_layout g slots) ms → inputs ≡ g.names → outputs ≡ output_words l g.outputs → code ≡ emitted g (first_layout g slots) ms
+    → l ≡ layout_after_all (first_layout g slots) ms → inputs ≡ g.names → outputs ≡ output_words l g.outputs → code ≡ emitted g (first_layout g slots) ms
     → made slots l.words inputs outputs code ≡ code_of g slots ms
 code_made g slots ms l inputs outputs code e names words is =
     let named = words ∙ ap (λ k. output_words k g.outputs) e in

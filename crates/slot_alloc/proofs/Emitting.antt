@@ -8,7 +8,7 @@ use Rattle.std.proofs.lemmas.Option.{slice_get_cases}
 use Rattle.std.proofs.lemmas.List.Elements.{All-head, All-tail, All-nil, All-cons, All-append, All-weaker}
 use Rattle.std.proofs.lemmas.List.{take-append-drop, at_drop_more, drop_all}
 use Rattle.std.proofs.Common.{replicate, ◌≢◌, append_assoc, append-nil}
-use Rattle.slot_alloc.specs.Emitters.{IsReady}
+use Rattle.slot_alloc.specs.Emitters.{CanBePlayed}
 use Rattle.comp_graph.specs.declared.operation.Op.{Op}
 use Rattle.comp_graph.specs.declared.operation.Op.TheVariants.{Input, Set, Add, Sub, Mul, And, Or, Xor, Neg, Min, Max, Sel, Mad}
 use Rattle.comp_graph.specs.declared.node.Operand.{Operand}
@@ -18,6 +18,7 @@ use Rattle.comp_graph.specs.declared.node.Output.{Output}
 use Rattle.comp_graph.specs.Operations.{arity_of}
 use Rattle.comp_graph.specs.Vertices.{Vertices, ◌∈◌, ◌∉◌, IsWithin, size, AllBelow, set_below, count_below}
 use Rattle.comp_graph.specs.Sets.{membership, has_set_below}
+use Rattle.comp_graph.specs.declared.costs.Weights.{Weights}
 use Rattle.comp_graph.specs.Games.{game_on}
 use Rattle.comp_graph.specs.Graphs.{GraphParts, IsGraph, operands_of, vertices_of, inputs_of, outputs_of, is_input, IsConstant as IsConstantOperand}
 use Rattle.comp_graph.proofs.GraphLaws.{preds_of-node, contains-inputs_of, inputs_of-first}
@@ -34,7 +35,7 @@ use Rattle.scratch_machine.specs.declared.code.OutWord.{OutWord}
 use Rattle.scratch_machine.specs.Cells.{Cells}
 use Rattle.scratch_machine.specs.Codes.{IsInstr, IsSource, IsConstant, IsApply}
 use Rattle.scratch_machine.specs.CodePlays.{Places, NamesAll, IsComputeOf, with_slot, with_word, without_slot, Plays, first_places, HasOutputs, stores}
-use Rattle.slot_alloc.specs.Emitted.{Layout, lowest, placed, freed, filed, source_of, sources, application, code_of_move, laid, emitted, laid_all, first_layout, output_words}
+use Rattle.slot_alloc.specs.Emitted.{Layout, lowest, slot_given, slot_freed, word_given, source_of, sources, application, code_of_move, layout_after, emitted, layout_after_all, first_layout, output_words}
 use Rattle.slot_alloc.specs.Neat.{IsNeat, AreNeat}
 use Rattle.slot_alloc.specs.PlanCode.{EmittedCodePlays}
 use Rattle.slot_alloc.proofs.Placing.{IsLaid, lowest_is_least, nowhere, placed_laid, filed_laid, freed_laid}
@@ -129,21 +130,21 @@ constant_sources slot_of (Constant k ∷ xs) h = All-cons IsConstant _ _ tt (con
 record Emits (g : GraphParts) (slots : ℕ) (p : Position) (l : Layout) (q : Places) (ms : List Move) : Type 0 where
   last : Places
   plays : Plays g q ms (emitted g l ms) last
-  ends : IsLaid slots (length g.nodes) (position_after p ms) (laid_all l ms) last
-  grows : l.words ≤ (laid_all l ms).words
-  bounds : All (IsInstr slots (laid_all l ms).words) (emitted g l ms)
+  ends : IsLaid slots (length g.nodes) (position_after p ms) (layout_after_all l ms) last
+  grows : l.words ≤ (layout_after_all l ms).words
+  bounds : All (IsInstr slots (layout_after_all l ms).words) (emitted g l ms)
 
-module _ (g : GraphParts) (is : IsGraph g) (slots : ℕ) (few : slots ≤ 64) where
+module _ (g : GraphParts) (is : IsGraph g) (slots : ℕ) (few : slots ≤ 64) (weights : Weights) where
   node_at : (v : ℕ) → v < length g.nodes → (n : Node) × (slice_get g.nodes v ≡ Some n)
   node_at v h = elim ((slice_get_cases g.nodes v).1) [ inl w ↦ (w.0, w.2) | inr past ↦ absurd (omega arith) ]
 
-  emits : (ms : List Move) (p : Position) (l : Layout) (q : Places) → IsLaid slots (length g.nodes) p l q → IsPebbling (game_on g slots) p ms → AreNeat p ms
+  emits : (ms : List Move) (p : Position) (l : Layout) (q : Places) → IsLaid slots (length g.nodes) p l q → IsPebbling (game_on g slots weights) p ms → AreNeat p ms
       → Emits g slots p l q ms
   emits [] p l q ok moves neat = record { last = q; plays = refl; ends = ok; grows = omega arith; bounds = All-nil (IsInstr slots l.words) }
   emits (LoadMove v ∷ ms) p l q ok moves neat =
       let least = lowest_is_least slots (length g.nodes) few p l q ok v neat.0 moves.0.fits in
       let next = placed_laid slots (length g.nodes) few p l q ok v neat.0 least (ok.blue_vertex v moves.0.needs) in
-      let rest = emits ms (moved p (LoadMove v)) (placed l v) (with_slot q (lowest l.free) v) next moves.1 neat.1 in
+      let rest = emits ms (moved p (LoadMove v)) (slot_given l v) (with_slot q (lowest l.free) v) next moves.1 neat.1 in
       let grows = rest.grows in
       let less = ok.word_below v moves.0.needs in
       record {
@@ -151,30 +152,30 @@ module _ (g : GraphParts) (is : IsGraph g) (slots : ℕ) (few : slots ≤ 64) wh
         plays = (record { from_word = ok.blue_at v moves.0.needs; free_slot = ok.free_empty _ least.member; in_no_slot = nowhere slots (length g.nodes) few p l q ok v neat.0 }, rest.plays);
         ends = rest.ends;
         grows = grows;
-        bounds = All-cons (IsInstr slots (laid_all (placed l v) ms).words) _ _ (ok.free_below _ least.member, omega arith) rest.bounds;
+        bounds = All-cons (IsInstr slots (layout_after_all (slot_given l v) ms).words) _ _ (ok.free_below _ least.member, omega arith) rest.bounds;
       }
   emits (StoreMove v ∷ ms) p l q ok moves neat =
       let next = filed_laid slots (length g.nodes) few p l q ok v moves.0.needs neat.0 in
-      let rest = emits ms (moved p (StoreMove v)) (filed l v) (with_word q l.words v) next moves.1 neat.1 in
+      let rest = emits ms (moved p (StoreMove v)) (word_given l v) (with_word q l.words v) next moves.1 neat.1 in
       let grows = rest.grows in
       record {
         last = rest.last;
         plays = (record { from_slot = ok.red_at v moves.0.needs; free_word = ok.past l.words (omega arith) }, rest.plays);
         ends = rest.ends;
         grows = omega arith;
-        bounds = All-cons (IsInstr slots (laid_all (filed l v) ms).words) _ _ (ok.slot_below v moves.0.needs, omega arith) rest.bounds;
+        bounds = All-cons (IsInstr slots (layout_after_all (word_given l v) ms).words) _ _ (ok.slot_below v moves.0.needs, omega arith) rest.bounds;
       }
   emits (Compute v ∷ ms) p l q ok moves neat =
       let can = moves.0.needs in
       let least = lowest_is_least slots (length g.nodes) few p l q ok v neat.0 moves.0.fits in
       let next = placed_laid slots (length g.nodes) few p l q ok v neat.0 least can.vertex in
-      let rest = emits ms (moved p (Compute v)) (placed l v) (with_slot q (lowest l.free) v) next moves.1 neat.1 in
+      let rest = emits ms (moved p (Compute v)) (slot_given l v) (with_slot q (lowest l.free) v) next moves.1 neat.1 in
       let grows = rest.grows in
       let w = node_at v can.vertex in
       let within : IsWithin (vertices_of (operands_of w.0)) p.red = λ u h. can.preds_red u (ap (λ s. set.contains s u) (preds_of-node g v w.0 w.1) ∙ h) in
       let taken = sources_taken l.slot_of w.0.op w.0.args (is.nodes v w.0 w.1).three in
-      let here : emitted g l (Compute v ∷ ms) ≡ Apply w.0.op (lowest l.free) (sources l.slot_of w.0.op w.0.args) ∷ emitted g (placed l v) ms
-      = ap (λ o. application l o ++ emitted g (placed l v) ms) w.1 in
+      let here : emitted g l (Compute v ∷ ms) ≡ Apply w.0.op (lowest l.free) (sources l.slot_of w.0.op w.0.args) ∷ emitted g (slot_given l v) ms
+      = ap (λ o. application l o ++ emitted g (slot_given l v) ms) w.1 in
       let computes : IsComputeOf g q v w.0.op (lowest l.free) (sources l.slot_of w.0.op w.0.args) = record {
         node = w.0;
         is_node = w.1;
@@ -198,11 +199,11 @@ module _ (g : GraphParts) (is : IsGraph g) (slots : ℕ) (few : slots ≤ 64) wh
         plays = subst (λ c. Plays g q (Compute v ∷ ms) c rest.last) (sym here) (computes, rest.plays);
         ends = rest.ends;
         grows = grows;
-        bounds = subst (All (IsInstr slots (laid_all (placed l v) ms).words)) (sym here) (All-cons (IsInstr slots (laid_all (placed l v) ms).words) _ _ applies rest.bounds);
+        bounds = subst (All (IsInstr slots (layout_after_all (slot_given l v) ms).words)) (sym here) (All-cons (IsInstr slots (layout_after_all (slot_given l v) ms).words) _ _ applies rest.bounds);
       }
   emits (DropRed v ∷ ms) p l q ok moves neat =
       let next = freed_laid slots (length g.nodes) few p l q ok v moves.0.needs in
-      let rest = emits ms (moved p (DropRed v)) (freed l v) (without_slot q (l.slot_of v)) next moves.1 neat.1 in
+      let rest = emits ms (moved p (DropRed v)) (slot_freed l v) (without_slot q (l.slot_of v)) next moves.1 neat.1 in
       record { last = rest.last; plays = (l.slot_of v, ok.red_at v moves.0.needs, rest.plays); ends = rest.ends; grows = rest.grows; bounds = rest.bounds }
   emits (DropBlue v ∷ ms) p l q ok moves neat = absurd neat.0
 
@@ -231,8 +232,8 @@ first_word a n h = ap (λ b. cond b (Some a) None) (lt-ltb a n h)
 past_words : (a n : ℕ) → n ≤ a → cond (ltb a n) (Some a) None ≡ None
 past_words a n h = let e : ltb a n ≡ false = grind (arith, nat_tests) in ap (λ b. cond b (Some a) None) e
 
-starts_laid : (g : GraphParts) → IsGraph g → (slots : ℕ) → IsLaid slots (length g.nodes) (start (game_on g slots)) (first_layout g slots) (first_places g)
-starts_laid g is slots =
+starts_laid : (g : GraphParts) → IsGraph g → (slots : ℕ) (weights : Weights) → IsLaid slots (length g.nodes) (start (game_on g slots weights)) (first_layout g slots) (first_places g)
+starts_laid g is slots weights =
     let input : (v : ℕ) → v ∈ inputs_of g → v < length g.names = λ v h. below_from_in v (length g.names) (ap (λ s. set.contains s v) (inputs_of-first g is) ∙ h) in
     record {
       red_at = λ v h. absurd (none_red v h);
@@ -273,21 +274,21 @@ module _ (slots n : ℕ) (p : Position) (l : Layout) (q : Places) (ok : IsLaid s
   output_bounds (o ∷ os) h = All-cons (λ (w : OutWord). w.word < l.words) _ _ (ok.word_below o.vertex (All-head (IsMemberOf p.blue) o os h)) (output_bounds os (All-tail (IsMemberOf p.blue) o os h))
 
 -- each store takes one more word
-words_stored : (l : Layout) (ms : List Move) → (laid_all l ms).words ≡ l.words + stores ms
+words_stored : (l : Layout) (ms : List Move) → (layout_after_all l ms).words ≡ l.words + stores ms
 words_stored l [] = omega arith
-words_stored l (LoadMove v ∷ ms) = omega (arith, words_stored (placed l v) ms)
-words_stored l (StoreMove v ∷ ms) = omega (arith, words_stored (filed l v) ms)
-words_stored l (Compute v ∷ ms) = omega (arith, words_stored (placed l v) ms)
-words_stored l (DropRed v ∷ ms) = omega (arith, words_stored (freed l v) ms)
+words_stored l (LoadMove v ∷ ms) = omega (arith, words_stored (slot_given l v) ms)
+words_stored l (StoreMove v ∷ ms) = omega (arith, words_stored (word_given l v) ms)
+words_stored l (Compute v ∷ ms) = omega (arith, words_stored (slot_given l v) ms)
+words_stored l (DropRed v ∷ ms) = omega (arith, words_stored (slot_freed l v) ms)
 words_stored l (DropBlue v ∷ ms) = omega (arith, words_stored l ms)
 
 pub emitted_code_plays : EmittedCodePlays
 unfolding outputs_of
-emitted_code_plays g slots ms is some few complete neat =
-    let ran = emits g is slots few ms (start (game_on g slots)) (first_layout g slots) (first_places g) (starts_laid g is slots) complete.pebbling neat in
+emitted_code_plays g slots weights ms is some few complete neat =
+    let ran = emits g is slots few weights ms (start (game_on g slots weights)) (first_layout g slots) (first_places g) (starts_laid g is slots weights) complete.pebbling neat in
     let blue = outputs_in g.outputs _ complete.outputs_blue in
     let grows = ran.grows in
-    let all = size_le_below (length g.nodes) (position_after (start (game_on g slots)) ms).blue (record { below = ran.ends.blue_vertex }) in
+    let all = size_le_below (length g.nodes) (position_after (start (game_on g slots weights)) ms).blue (record { below = ran.ends.blue_vertex }) in
     let words = ran.ends.words in
     let small = is.small in
     record {
@@ -313,9 +314,9 @@ zero_words (suc n) (suc v) = zero_words n v
 pub zero_filled : (n v : ℕ) → get_or {A = ℕ} (replicate n 0) v 0 ≡ cond (ltb v 0) v 0
 zero_filled n v = zero_words n v ∙ (let e : ltb v 0 ≡ false = grind (arith, nat_tests) in ap (λ b. cond b v 0) (sym e))
 
-module _ (g : GraphParts) (is : IsGraph g) (slots : ℕ) (few : slots ≤ 64) where
-  laid_next : (p : Position) (l : Layout) (q : Places) (m : Move) → IsLaid slots (length g.nodes) p l q → IsMove (game_on g slots) p m → IsNeat p m
-      → (r : Places) × IsLaid slots (length g.nodes) (moved p m) (laid l m) r
+module _ (g : GraphParts) (is : IsGraph g) (slots : ℕ) (few : slots ≤ 64) (weights : Weights) where
+  laid_next : (p : Position) (l : Layout) (q : Places) (m : Move) → IsLaid slots (length g.nodes) p l q → IsMove (game_on g slots weights) p m → IsNeat p m
+      → (r : Places) × IsLaid slots (length g.nodes) (moved p m) (layout_after l m) r
   laid_next p l q (LoadMove v) ok move neat =
       (with_slot q (lowest l.free) v, placed_laid slots (length g.nodes) few p l q ok v neat (lowest_is_least slots (length g.nodes) few p l q ok v neat move.fits) (ok.blue_vertex v move.needs))
   laid_next p l q (StoreMove v) ok move neat = (with_word q l.words v, filed_laid slots (length g.nodes) few p l q ok v move.needs neat)
@@ -330,7 +331,7 @@ module _ (g : GraphParts) (is : IsGraph g) (slots : ℕ) (few : slots ≤ 64) wh
   small_slots : (p : Position) (l : Layout) (q : Places) → IsLaid slots (length g.nodes) p l q → AllBelow 64 l.free
   small_slots p l q ok = record { below = λ s h. (let less = ok.free_below s h in omega arith) }
 
-  ready : (p : Position) (l : Layout) (q : Places) (m : Move) → IsLaid slots (length g.nodes) p l q → IsMove (game_on g slots) p m → IsNeat p m → IsReady g l m
+  ready : (p : Position) (l : Layout) (q : Places) (m : Move) → IsLaid slots (length g.nodes) p l q → IsMove (game_on g slots weights) p m → IsNeat p m → CanBePlayed g l m
   ready p l q (LoadMove v) ok move neat =
       (let less = ok.blue_vertex v move.needs in let n = is.small in omega arith, no_room l.free (lowest l.free) (lowest_is_least slots (length g.nodes) few p l q ok v neat move.fits).member, small_slots p l q ok)
   ready p l q (StoreMove v) ok move neat =
@@ -345,20 +346,22 @@ module _ (g : GraphParts) (is : IsGraph g) (slots : ℕ) (few : slots ≤ 64) wh
 
 -- the code holds the first k moves' instructions, and the rest can be emitted
 pub record IsEmitting (g : GraphParts) (slots : ℕ) (ms : List Move) (k : ℕ) (l : Layout) (code : List Instr) : Type 0 where
+  pub weights : Weights
   pub position : Position
   pub places : Places
   pub laid_so : IsLaid slots (length g.nodes) position l places
-  pub moves : IsPebbling (game_on g slots) position (drop k ms)
+  pub moves : IsPebbling (game_on g slots weights) position (drop k ms)
   pub neat : AreNeat position (drop k ms)
   pub code_is : code ++ emitted g l (drop k ms) ≡ emitted g (first_layout g slots) ms
-  pub layout_is : laid_all l (drop k ms) ≡ laid_all (first_layout g slots) ms
+  pub layout_is : layout_after_all l (drop k ms) ≡ layout_after_all (first_layout g slots) ms
 
-pub emitting_first : (g : GraphParts) → IsGraph g → (slots : ℕ) (ms : List Move) (code : List Instr) (l : Layout) → IsPebbling (game_on g slots) (start (game_on g slots)) ms → AreNeat (start (game_on g slots)) ms
+pub emitting_first : (g : GraphParts) → IsGraph g → (slots : ℕ) (weights : Weights) (ms : List Move) (code : List Instr) (l : Layout) → IsPebbling (game_on g slots weights) (start (game_on g slots weights)) ms → AreNeat (start (game_on g slots weights)) ms
     → code ≡ [] → l ≡ first_layout g slots → IsEmitting g slots ms 0 l code
-emitting_first g is slots ms code l moves neat none first = subst (λ w. IsEmitting g slots ms 0 w code) (sym first) (record {
-  position = start (game_on g slots);
+emitting_first g is slots weights ms code l moves neat none first = subst (λ w. IsEmitting g slots ms 0 w code) (sym first) (record {
+  weights = weights;
+  position = start (game_on g slots weights);
   places = first_places g;
-  laid_so = starts_laid g is slots;
+  laid_so = starts_laid g is slots weights;
   moves = moves;
   neat = neat;
   code_is = ap (λ xs. xs ++ emitted g (first_layout g slots) ms) none;
@@ -369,34 +372,35 @@ module _ (g : GraphParts) (is : IsGraph g) (slots : ℕ) (few : slots ≤ 64) (m
   rest_is : drop k ms ≡ get_or ms k d ∷ drop (k + 1) ms
   rest_is = at_drop_more (λ xs. xs) ms k d within
 
-  moves_now : IsPebbling (game_on g slots) so.position (get_or ms k d ∷ drop (k + 1) ms)
-  moves_now = subst (IsPebbling (game_on g slots) so.position) rest_is so.moves
+  moves_now : IsPebbling (game_on g slots so.weights) so.position (get_or ms k d ∷ drop (k + 1) ms)
+  moves_now = subst (IsPebbling (game_on g slots so.weights) so.position) rest_is so.moves
 
   neat_now : AreNeat so.position (get_or ms k d ∷ drop (k + 1) ms)
   neat_now = subst (AreNeat so.position) rest_is so.neat
 
-  pub emitting_ready : IsReady g l (get_or ms k d)
-  emitting_ready = ready g is slots few so.position l so.places (get_or ms k d) so.laid_so moves_now.0 neat_now.0
+  pub emitting_ready : CanBePlayed g l (get_or ms k d)
+  emitting_ready = ready g is slots few so.weights so.position l so.places (get_or ms k d) so.laid_so moves_now.0 neat_now.0
 
-  pub emitting_more : (next : Layout) (more : List Instr) → next ≡ laid l (get_or ms k d) → more ≡ code ++ code_of_move g l (get_or ms k d) → IsEmitting g slots ms (k + 1) next more
+  pub emitting_more : (next : Layout) (more : List Instr) → next ≡ layout_after l (get_or ms k d) → more ≡ code ++ code_of_move g l (get_or ms k d) → IsEmitting g slots ms (k + 1) next more
   emitting_more next more e f =
-      let w = laid_next g is slots few so.position l so.places (get_or ms k d) so.laid_so moves_now.0 neat_now.0 in
+      let w = laid_next g is slots few so.weights so.position l so.places (get_or ms k d) so.laid_so moves_now.0 neat_now.0 in
       subst (λ n. IsEmitting g slots ms (k + 1) n more) (sym e) (record {
+        weights = so.weights;
         position = moved so.position (get_or ms k d);
         places = w.0;
         laid_so = w.1;
         moves = moves_now.1;
         neat = neat_now.1;
         code_is =
-            ap (λ xs. xs ++ emitted g (laid l (get_or ms k d)) (drop (k + 1) ms)) f
-            ∙ append_assoc code (code_of_move g l (get_or ms k d)) (emitted g (laid l (get_or ms k d)) (drop (k + 1) ms))
+            ap (λ xs. xs ++ emitted g (layout_after l (get_or ms k d)) (drop (k + 1) ms)) f
+            ∙ append_assoc code (code_of_move g l (get_or ms k d)) (emitted g (layout_after l (get_or ms k d)) (drop (k + 1) ms))
             ∙ ap (λ xs. code ++ emitted g l xs) (sym rest_is)
             ∙ so.code_is;
-        layout_is = ap (laid_all l) (sym rest_is) ∙ so.layout_is;
+        layout_is = ap (layout_after_all l) (sym rest_is) ∙ so.layout_is;
       })
 
 pub emitting_done : (g : GraphParts) (slots : ℕ) (ms : List Move) (k : ℕ) (l : Layout) (code : List Instr) → IsEmitting g slots ms k l code → length ms ≤ k → code ≡ emitted g (first_layout g slots) ms
 emitting_done g slots ms k l code so h = sym (append-nil code) ∙ ap (λ xs. code ++ emitted g l xs) (sym (drop_all k ms h)) ∙ so.code_is
 
-pub emitting_layout : (g : GraphParts) (slots : ℕ) (ms : List Move) (k : ℕ) (l : Layout) (code : List Instr) → IsEmitting g slots ms k l code → length ms ≤ k → l ≡ laid_all (first_layout g slots) ms
-emitting_layout g slots ms k l code so h = ap (laid_all l) (sym (drop_all k ms h)) ∙ so.layout_is
+pub emitting_layout : (g : GraphParts) (slots : ℕ) (ms : List Move) (k : ℕ) (l : Layout) (code : List Instr) → IsEmitting g slots ms k l code → length ms ≤ k → l ≡ layout_after_all (first_layout g slots) ms
+emitting_layout g slots ms k l code so h = ap (layout_after_all l) (sym (drop_all k ms h)) ∙ so.layout_is

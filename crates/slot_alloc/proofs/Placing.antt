@@ -18,7 +18,7 @@ use Rattle.comp_graph.specs.Sets.{membership}
 use Rattle.comp_graph.proofs.Sets.{in_insert_same, in_insert, insert_cases, size_insert_new, size_remove, some_member, not_in_remove}
 use Rattle.scratch_machine.specs.Cells.{Cells, put, cleared, IsNowhere}
 use Rattle.scratch_machine.specs.CodePlays.{Places, with_slot, with_word, without_slot}
-use Rattle.slot_alloc.specs.Emitted.{Layout, changed, first, lowest, placed, freed, filed}
+use Rattle.slot_alloc.specs.Emitted.{Layout, changed, first, lowest, slot_given, slot_freed, word_given}
 
 -- ---- the lowest member
 
@@ -117,7 +117,7 @@ module _ (slots n : ℕ) (few : slots ≤ 64) (p : Position) (l : Layout) (q : P
   nowhere new s e = false≢true (sym new ∙ (ok.only_red s v e).0)
 
   pub placed_laid : v ∉ p.red → IsLeast l.free (lowest l.free) → v < n
-      → IsLaid slots n (record { red = set.insert p.red v; blue = p.blue }) (placed l v) (with_slot q (lowest l.free) v)
+      → IsLaid slots n (record { red = set.insert p.red v; blue = p.blue }) (slot_given l v) (with_slot q (lowest l.free) v)
   placed_laid new least vertex =
       let s : ℕ = lowest l.free in
       let is_free : q.slots (lowest l.free) ≡ None = ok.free_empty _ least.member in
@@ -157,7 +157,7 @@ module _ (slots n : ℕ) (few : slots ≤ 64) (p : Position) (l : Layout) (q : P
 
   -- ---- a vertex is stored in the next word
 
-  pub filed_laid : v ∈ p.red → v ∉ p.blue → IsLaid slots n (record { red = p.red; blue = set.insert p.blue v }) (filed l v) (with_word q l.words v)
+  pub filed_laid : v ∈ p.red → v ∉ p.blue → IsLaid slots n (record { red = p.red; blue = set.insert p.blue v }) (word_given l v) (with_word q l.words v)
   filed_laid red new = record {
     red_at = ok.red_at;
     only_red = ok.only_red;
@@ -189,7 +189,7 @@ module _ (slots n : ℕ) (few : slots ≤ 64) (p : Position) (l : Layout) (q : P
 
   -- ---- a vertex leaves its slot
 
-  pub freed_laid : v ∈ p.red → IsLaid slots n (record { red = set.remove p.red v; blue = p.blue }) (freed l v) (without_slot q (l.slot_of v))
+  pub freed_laid : v ∈ p.red → IsLaid slots n (record { red = set.remove p.red v; blue = p.blue }) (slot_freed l v) (without_slot q (l.slot_of v))
   freed_laid red =
       let here = ok.red_at v red in
       record {

@@ -40,20 +40,20 @@ unfoldable pub lowest : Vertices → ℕ
 lowest s = first (rising 256 s)
 
 -- the vertex takes a slot
-abbrev pub placed_at : Layout → ℕ → ℕ → Layout
-placed_at l v s = record { free = set.remove l.free s; slot_of = changed l.slot_of v s; word_of = l.word_of; words = l.words }
+abbrev pub slot_given_at : Layout → ℕ → ℕ → Layout
+slot_given_at l v s = record { free = set.remove l.free s; slot_of = changed l.slot_of v s; word_of = l.word_of; words = l.words }
 
 -- the vertex takes the lowest free slot
-abbrev pub placed : Layout → ℕ → Layout
-placed l v = placed_at l v (lowest l.free)
+abbrev pub slot_given : Layout → ℕ → Layout
+slot_given l v = slot_given_at l v (lowest l.free)
 
 -- the vertex's slot becomes free
-abbrev pub freed : Layout → ℕ → Layout
-freed l v = record { free = set.insert l.free (l.slot_of v); slot_of = l.slot_of; word_of = l.word_of; words = l.words }
+abbrev pub slot_freed : Layout → ℕ → Layout
+slot_freed l v = record { free = set.insert l.free (l.slot_of v); slot_of = l.slot_of; word_of = l.word_of; words = l.words }
 
 -- the vertex takes the next word
-abbrev pub filed : Layout → ℕ → Layout
-filed l v = record { free = l.free; slot_of = l.slot_of; word_of = changed l.word_of v l.words; words = l.words + 1 }
+abbrev pub word_given : Layout → ℕ → Layout
+word_given l v = record { free = l.free; slot_of = l.slot_of; word_of = changed l.word_of v l.words; words = l.words + 1 }
 
 -- an operand by the slots of the vertices
 abbrev pub source_of : (ℕ → ℕ) → Operand → Source
@@ -82,22 +82,22 @@ code_of_move g l (DropRed v) = []
 code_of_move g l (DropBlue v) = []
 
 -- the layout after a move
-abbrev pub laid : Layout → Move → Layout
-laid l (LoadMove v) = placed l v
-laid l (StoreMove v) = filed l v
-laid l (Compute v) = placed l v
-laid l (DropRed v) = freed l v
-laid l (DropBlue v) = l
+abbrev pub layout_after : Layout → Move → Layout
+layout_after l (LoadMove v) = slot_given l v
+layout_after l (StoreMove v) = word_given l v
+layout_after l (Compute v) = slot_given l v
+layout_after l (DropRed v) = slot_freed l v
+layout_after l (DropBlue v) = l
 
 -- the instructions of a list of moves
 abbrev pub emitted : GraphParts → Layout → List Move → List Instr
 emitted g l [] = []
-emitted g l (m ∷ ms) = code_of_move g l m ++ emitted g (laid l m) ms
+emitted g l (m ∷ ms) = code_of_move g l m ++ emitted g (layout_after l m) ms
 
 -- the layout after a list of moves
-abbrev pub laid_all : Layout → List Move → Layout
-laid_all l [] = l
-laid_all l (m ∷ ms) = laid_all (laid l m) ms
+abbrev pub layout_after_all : Layout → List Move → Layout
+layout_after_all l [] = l
+layout_after_all l (m ∷ ms) = layout_after_all (layout_after l m) ms
 
 -- all slots are free, and input k has word k
 abbrev pub first_layout : GraphParts → ℕ → Layout
@@ -111,8 +111,8 @@ output_words l os = map (λ o. record { label = o.label; word = l.word_of o.vert
 abbrev pub code_of : GraphParts → ℕ → List Move → CodeParts
 code_of g slots ms = record {
   slots = slots;
-  words = (laid_all (first_layout g slots) ms).words;
+  words = (layout_after_all (first_layout g slots) ms).words;
   inputs = g.names;
-  outputs = output_words (laid_all (first_layout g slots) ms) g.outputs;
+  outputs = output_words (layout_after_all (first_layout g slots) ms) g.outputs;
   instructions = emitted g (first_layout g slots) ms;
 }

@@ -13,9 +13,9 @@ abbrev pub layout_of : Emitter → Layout
 layout_of e = record { free = e.free; slot_of = λ v. slice_index e.slot_of v; word_of = λ v. slice_index e.word_of v; words = e.words }
 
 -- what the emitter needs for a move
-abbrev pub IsReady : GraphParts → Layout → Move → Type 0
-IsReady g l (Load v) = (v < 256) × (set.empty ≢ l.free) × AllBelow 64 l.free
-IsReady g l (Store v) = (v < 256) × (l.words < 256)
-IsReady g l (Compute v) = (v < length g.nodes) × (set.empty ≢ l.free) × AllBelow 64 l.free
-IsReady g l (DropRed v) = (v < 256) × (l.slot_of v < 64)
-IsReady g l (DropBlue v) = ⊥
+abbrev pub CanBePlayed : GraphParts → Layout → Move → Type 0
+CanBePlayed g l (Load v) = (v < 256) × (set.empty ≢ l.free) × AllBelow 64 l.free
+CanBePlayed g l (Store v) = (v < 256) × (l.words < 256)
+CanBePlayed g l (Compute v) = (v < length g.nodes) × (set.empty ≢ l.free) × AllBelow 64 l.free
+CanBePlayed g l (DropRed v) = (v < 256) × (l.slot_of v < 64)
+CanBePlayed g l (DropBlue v) = ⊥

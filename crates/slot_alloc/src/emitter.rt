@@ -4,8 +4,8 @@ ghost use Rattle.std.specs.FinSet as set;
 ghost use Rattle.std.specs.List.{All};
 ghost use Rattle.comp_graph.specs.Vertices.{AllBelow};
 ghost use Rattle.comp_graph.specs.Graphs.{IsOperandBelow, operands_of};
-ghost use Rattle.slot_alloc.specs.Emitted.{placed, freed, filed, lowest, source_at, sources, laid, code_of_move, first_layout, output_words};
-ghost use Rattle.slot_alloc.specs.Emitters.{layout_of, IsReady};
+ghost use Rattle.slot_alloc.specs.Emitted.{slot_given, slot_freed, word_given, lowest, source_at, sources, layout_after, code_of_move, first_layout, output_words};
+ghost use Rattle.slot_alloc.specs.Emitters.{layout_of, CanBePlayed};
 
 use comp_graph::{Graph, NoMemory, Node, Operand, Output, VertexSet};
 use pebble_rules::Move;
@@ -49,8 +49,8 @@ impl Emitter {
 
     /// The instructions of a move are appended. A `DropRed` has none.
     pub fn play(&mut self, graph: &Graph, mv: Move) -> Result<(), NoMemory>
-        requires { IsReady graph.now (layout_of self.old) mv }
-        ensures layout { layout_of self.new ≡ laid (layout_of self.old) mv }
+        requires { CanBePlayed graph.now (layout_of self.old) mv }
+        ensures layout { layout_of self.new ≡ layout_after (layout_of self.old) mv }
         ensures code { OnOk result (self.new.instructions.items ≡ self.old.instructions.items ++ code_of_move graph.now (layout_of self.old) mv) }
     {
         match mv {
@@ -93,7 +93,7 @@ impl Emitter {
         requires room { set.empty ≢ self.old.free }
         requires below { AllBelow 64 self.old.free }
         ensures slot { result ≡ lowest self.old.free }
-        ensures layout { layout_of self.new ≡ placed (layout_of self.old) v }
+        ensures layout { layout_of self.new ≡ slot_given (layout_of self.old) v }
         ensures code { self.new.instructions.items ≡ self.old.instructions.items }
     {
         let Some(slot) = self.free.least() else {
@@ -108,7 +108,7 @@ impl Emitter {
         requires vertex { v < 256 }
         requires room { set.empty ≢ self.old.free }
         requires below { AllBelow 64 self.old.free }
-        ensures layout { layout_of self.new ≡ placed (layout_of self.old) v }
+        ensures layout { layout_of self.new ≡ slot_given (layout_of self.old) v }
         ensures code { OnOk result (self.new.instructions.items ≡ self.old.instructions.items ++ Instr.Load (lowest self.old.free) ((layout_of self.old).word_of v) ∷ []) }
     {
         let word = self.word_of[v as usize];
@@ -119,7 +119,7 @@ impl Emitter {
     fn store(&mut self, v: u16) -> Result<(), NoMemory>
         requires vertex { v < 256 }
         requires room { self.old.words < 256 }
-        ensures layout { layout_of self.new ≡ filed (layout_of self.old) v }
+        ensures layout { layout_of self.new ≡ word_given (layout_of self.old) v }
         ensures code { OnOk result (self.new.instructions.items ≡ self.old.instructions.items ++ Instr.Store ((layout_of self.old).slot_of v) self.old.words ∷ []) }
     {
         let slot = self.slot_of[v as usize];
@@ -134,7 +134,7 @@ impl Emitter {
         requires room { set.empty ≢ self.old.free }
         requires below { AllBelow 64 self.old.free }
         requires operands { All (IsOperandBelow 256) (operands_of node.now) }
-        ensures layout { layout_of self.new ≡ placed (layout_of self.old) v }
+        ensures layout { layout_of self.new ≡ slot_given (layout_of self.old) v }
         ensures code { OnOk result (self.new.instructions.items ≡ self.old.instructions.items ++ Instr.Apply node.now.op (lowest self.old.free) (sources (layout_of self.old).slot_of node.now.op node.now.args) ∷ []) }
     {
         let args = [
@@ -154,7 +154,7 @@ impl Emitter {
     fn drop_red(&mut self, v: u16)
         requires vertex { v < 256 }
         requires below { (layout_of self.old).slot_of v < 64 }
-        ensures layout { layout_of self.new ≡ freed (layout_of self.old) v }
+        ensures layout { layout_of self.new ≡ slot_freed (layout_of self.old) v }
         ensures code { self.new.instructions.items ≡ self.old.instructions.items }
     {
         self.free = self.free.with(self.slot_of[v as usize]);

@@ -13,8 +13,8 @@ pub fn plays_are_neat()
 {}
 
 /// The code of a plan is right: on every list of as many values as the graph has inputs it runs without a fault and gives the values of the
-/// output elements, with exactly as many transfers as the plan costs. It plays the moves of the plan, which are a complete pebbling of that
-/// cost, and keeps the bounds of a code.
+/// output elements, and the load weight times its loads plus the store weight times its stores is what the plan costs. It plays the moves of
+/// the plan, which are a complete pebbling of that cost, and keeps the bounds of a code.
 pub fn plan_code_is_right()
     ensures { PlanCodeIsRight }
 {}

@@ -12,7 +12,7 @@ use normal_steps::{Plan, Step, after};
 use pebble_rules::{Move, Position};
 use std::alloc::Global;
 
-/// The moves of a plan, in order, those of the finish at the end. They are a complete pebbling of the plan's cost.
+/// The moves of a plan, in order, those of the finish at the end, or want of memory. They are a complete pebbling of the plan's cost.
 pub fn plan_moves<'g>(alloc: Global, plan: &Plan<'g>) -> Result<Vec<Move>, NoMemory>
     ensures { IfOk result (λ moves. moves.items ≡ plan_moves plan.now) }
 {

@@ -2,7 +2,7 @@
 ghost use Rattle.std.specs.Prelude.{◌≡◌, ◌≤◌, length, IfOk};
 
 use crate::emit;
-use comp_graph::{Game, Graph, Label, Node, Op, Operand, Output};
+use comp_graph::{Game, Graph, Label, Node, Op, Operand, Output, Weights};
 use normal_steps::Plan;
 use normal_steps::Step::{self, Drop, Spill, Work};
 use scratch_machine::{Code, Instr, Source, exec};
@@ -217,16 +217,16 @@ fn compare(rt: &impl Abort, code: &Code, words: u16, outputs: &[u16], instructio
     }
 }
 
-// The game with a number of slots that is above the degree.
+// The game with a number of slots that is above the degree, where a load costs 2 and a store 3.
 fn with_slots(rt: &impl Abort, graph: Graph, slots: u16) -> Game {
     assert!(rt; 0 < slots && slots <= 64);
-    match Game::new(graph, slots) {
+    match Game::new(graph, slots, Weights { load: 2, store: 3 }) {
         Ok(game) => game,
         Err(_) => panic!(rt; "there are more slots than the degree"),
     }
 }
 
-// The code of the plan of these steps, which cost so many transfers.
+// The code of the plan of these steps, which cost so much.
 fn code_of_steps(
     rt: &impl Abort,
     alloc: Global,
@@ -248,7 +248,7 @@ fn code_of_steps(
 #[test]
 fn one_sum_with_two_slots(rt: HostRuntime) -> Result<(), Fail> {
     let game = with_slots(&rt, one_sum(rt.alloc())?, 2);
-    let code = code_of_steps(&rt, rt.alloc(), &game, &[Work(1)], 2)?;
+    let code = code_of_steps(&rt, rt.alloc(), &game, &[Work(1)], 5)?;
     let expected = one_sum_code(rt.alloc())?;
     compare(&rt, &code, 2, &[1], &expected);
     Ok(())
@@ -257,7 +257,7 @@ fn one_sum_with_two_slots(rt: HostRuntime) -> Result<(), Fail> {
 #[test]
 fn three_outputs_with_three_slots(rt: HostRuntime) -> Result<(), Fail> {
     let game = with_slots(&rt, three_outputs(rt.alloc())?, 3);
-    let code = code_of_steps(&rt, rt.alloc(), &game, &[Work(2), Drop(1), Work(3)], 4)?;
+    let code = code_of_steps(&rt, rt.alloc(), &game, &[Work(2), Drop(1), Work(3)], 10)?;
     let expected = three_outputs_code(rt.alloc())?;
     compare(&rt, &code, 4, &[0, 2, 3], &expected);
     Ok(())
@@ -285,7 +285,7 @@ const CHAIN_STEPS: [Step; 15] = [
 #[test]
 fn chain_with_three_slots(rt: HostRuntime) -> Result<(), Fail> {
     let game = with_slots(&rt, chain(rt.alloc())?, 3);
-    let code = code_of_steps(&rt, rt.alloc(), &game, &CHAIN_STEPS, 7)?;
+    let code = code_of_steps(&rt, rt.alloc(), &game, &CHAIN_STEPS, 17)?;
     let expected = chain_code(rt.alloc())?;
     compare(&rt, &code, 4, &[3], &expected);
     assert!(rt; code.instructions().len() == 14 && code.outputs().len() == 1);

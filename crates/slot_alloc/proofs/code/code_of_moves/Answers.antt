@@ -13,8 +13,8 @@ use Rattle.slot_alloc.proofs.code.code_of_moves.Goals as goal
 pub loop-mv-init : goal.loop-mv-init
 loop-mv-init c =
     let is : IsGraph c.args.graph.now = search rules in
-    emitting_first c.args.graph.now is c.args.slots c.args.moves.now c.begin-emitter.result.instructions.items (layout_of c.begin-emitter.result)
-    c.requires.complete.pebbling c.requires.neat c.begin-emitter.ensures.code c.begin-emitter.ensures.layout
+    emitting_first c.args.graph.now is c.args.slots c.requires.moves.weights c.args.moves.now c.begin-emitter.result.instructions.items (layout_of c.begin-emitter.result)
+    c.requires.moves.complete.pebbling c.requires.moves.neat c.begin-emitter.ensures.code c.begin-emitter.ensures.layout
 
 pub play-requires : goal.play-requires
 play-requires c =
@@ -31,7 +31,7 @@ loop-mv-preserved c =
 pub new-requires : goal.new-requires
 new-requires c =
     let valid : IsGraph c.args.graph.now = search rules in
-    let code : IsCodeOf c.args.graph.now c.args.slots c.args.moves.now = emitted_code_plays c.args.graph.now c.args.slots c.args.moves.now valid c.requires.some c.requires.few c.requires.complete c.requires.neat in
+    let code : IsCodeOf c.args.graph.now c.args.slots c.args.moves.now = emitted_code_plays c.args.graph.now c.args.slots c.requires.moves.weights c.args.moves.now valid c.requires.some c.requires.few c.requires.moves.complete c.requires.moves.neat in
     let done : length c.args.moves.now ≤ c.loop-mv.mv-index = omega arith in
     subst IsCode
     (sym (code_made c.args.graph.now c.args.slots c.args.moves.now (layout_of c.loop-mv.emitter) c.in_ok-inputs.inputs.items c.in_ok-outputs.outputs.items c.loop-mv.emitter.instructions.items

@@ -1,27 +1,14 @@
-use Rattle.std.proofs.Common.{ap, ◌∙◌, sym, refl, ◌+◌, ◌-◌, arith}
-use Rattle.std.specs.FinSet as set
+-- What is kept is what the lists give.
+use Rattle.std.proofs.Common.{sym, subst}
+use Rattle.comp_graph.specs.Dags.{IsLiveSet}
 use Rattle.comp_graph.specs.Graphs.{dag_of}
-use Rattle.comp_graph.proofs.Live.{IsSwept-start, IsSwept-in, IsSwept-out, IsSwept-end, IsSwept-at, live_of_is}
+use Rattle.comp_graph.proofs.Live.{live_of_is_live}
 use Rattle.comp_graph.proofs.GraphLaws.{IsDag-dag_of}
 use Rattle.comp_graph.proofs.graph.Graph.live.Goals as goal
 
-pub loop-v-init : goal.loop-v-init
-loop-v-init c = IsSwept-at _ _ _ (sym c.len-v.ensures.value) (sym c.out_set-live.ensures) (IsSwept-start (dag_of c.args.self.now) (IsDag-dag_of c.args.self.now c.len-v.ensures.valid))
-
-pub loop-v-preserved-then-has : goal.loop-v-preserved-then-has
-loop-v-preserved-then-has c =
-    let ok = IsDag-dag_of c.args.self.now c.len-v.ensures.valid in
-    let before = IsSwept-at (dag_of c.args.self.now) c.loop-v.v (c.loop-v.v - 1 + 1) (omega (arith, c.loop-v-test.true)) refl c.loop-v.invariant in
-    let swept = IsSwept-in (dag_of c.args.self.now) (c.loop-v.v - 1) c.loop-v.live ok (omega (arith, c.len-v.ensures.value, c.loop-v-test.true)) before (sym c.has.ensures.value ∙ c.if-has.true) in
-    IsSwept-at (dag_of c.args.self.now) (c.loop-v.v - 1) (c.loop-v.v - 1) refl (sym (c.union-live.ensures ∙ ap (set.union c.loop-v.live) c.preds.ensures)) swept
-
-pub loop-v-preserved : goal.loop-v-preserved
-loop-v-preserved c =
-    let before = IsSwept-at (dag_of c.args.self.now) c.loop-v.v (c.loop-v.v - 1 + 1) (omega (arith, c.loop-v-test.true)) refl c.loop-v.invariant in
-    IsSwept-out (dag_of c.args.self.now) (c.loop-v.v - 1) c.loop-v.live before (sym c.has.ensures.value ∙ c.if-has.false)
-
 pub returns-clause-paths : goal.returns-clause-paths
-returns-clause-paths c = IsSwept-end (dag_of c.args.self.now) c.loop-v.live (IsSwept-at (dag_of c.args.self.now) c.loop-v.v 0 (omega (arith, c.loop-v-test.false)) refl c.loop-v.invariant)
-
-pub returns-clause-value : goal.returns-clause-value
-returns-clause-value c = live_of_is (dag_of c.args.self.now) c.loop-v.live (IsDag-dag_of c.args.self.now c.len-v.ensures.valid) (returns-clause-paths c)
+returns-clause-paths c =
+    let lists = c.self.inside.lists in
+    let kept = c.self.invariant in
+    subst (λ g. IsLiveSet (dag_of g) c.self.inside.live) c.self.view_is
+    (subst (IsLiveSet (dag_of lists)) (sym kept.live) (live_of_is_live (dag_of lists) (IsDag-dag_of lists kept.valid)))
