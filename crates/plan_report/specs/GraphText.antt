@@ -2,31 +2,15 @@
 -- project's convention).
 use Rattle.std.specs.Prelude.{ℕ, ◌+◌, List, [], ◌∷◌, ◌++◌, map, length, slice_index_or, if◌then◌else◌, codes}
 use Rattle.std.specs.Fmt.{decimal, signed_decimal}
-use Rattle.comp_graph.specs.declared.operation.Op.{Op}
-use Rattle.comp_graph.specs.declared.operation.Op.TheVariants.{Input, Set, Add, Sub, Mul, And, Or, Xor, Neg, Min, Max, Sel, Mad}
 use Rattle.comp_graph.specs.declared.node.Operand.{Operand}
 use Rattle.comp_graph.specs.declared.node.Operand.TheVariants.{Vertex, Const}
 use Rattle.comp_graph.specs.declared.node.Node.{Node}
 use Rattle.comp_graph.specs.declared.node.Output.{Output}
+use Rattle.comp_graph.specs.Operations.{op_word}
 use Rattle.comp_graph.specs.Graphs.{GraphParts, dag_of, is_input, operands_of}
 use Rattle.comp_graph.specs.Dags.{degree}
-use Rattle.plan_report.specs.Lines.{line, ended}
-
--- the word of an operation; `in` stands for one that is given from outside
-abbrev pub op_word : Op → List ℕ
-op_word Input = codes "in"
-op_word Set = codes "set"
-op_word Add = codes "add"
-op_word Sub = codes "sub"
-op_word Mul = codes "mul"
-op_word And = codes "and"
-op_word Or = codes "or"
-op_word Xor = codes "xor"
-op_word Neg = codes "neg"
-op_word Min = codes "min"
-op_word Max = codes "max"
-op_word Sel = codes "sel"
-op_word Mad = codes "mad"
+use Rattle.line_texts.specs.Lines.{ended}
+use Rattle.line_texts.specs.Words.{line}
 
 -- an operand: `v` and the vertex, or `#` and the constant
 abbrev pub operand_text : Operand → List ℕ

@@ -1,5 +1,4 @@
 -- The words that this crate's contracts are written in.
-pub mod Lines
 pub mod ReportText
 pub mod OutputsText
 pub mod GraphText

@@ -2,7 +2,8 @@
 use Rattle.std.specs.Prelude.{ℕ, ℤ, List, [], ◌∷◌, map, codes}
 use Rattle.std.specs.List.{zip}
 use Rattle.std.specs.Fmt.{signed_decimal}
-use Rattle.plan_report.specs.Lines.{line, ended}
+use Rattle.line_texts.specs.Lines.{ended}
+use Rattle.line_texts.specs.Words.{line}
 
 -- an element's label, an equals sign, and its value
 abbrev pub value_line : List ℕ → ℤ → List ℕ

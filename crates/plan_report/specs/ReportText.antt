@@ -2,7 +2,8 @@
 use Rattle.std.specs.Prelude.{ℕ, Bool, true, false, List, [], ◌∷◌, codes}
 use Rattle.std.specs.Fmt.{decimal}
 use Rattle.plan_report.specs.declared.facts.Facts.{Facts}
-use Rattle.plan_report.specs.Lines.{line, ended}
+use Rattle.line_texts.specs.Lines.{ended}
+use Rattle.line_texts.specs.Words.{line}
 
 -- a semicolon, the name of a fact, and its value
 abbrev pub remark : List ℕ → List ℕ → List ℕ

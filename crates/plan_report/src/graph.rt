@@ -2,7 +2,9 @@
 ghost use Rattle.std.specs.Prelude.{◌≡◌, ◌++◌, ◌∷◌, [], map, length, codes, OnOk, IfOk, string_bytes};
 ghost use Rattle.std.specs.Fmt.{decimal};
 ghost use Rattle.comp_graph.specs.Graphs.{IsNode, operands_of};
-ghost use Rattle.plan_report.specs.Lines.{after_spaces, line, ended};
+ghost use Rattle.comp_graph.specs.Operations.{op_word};
+ghost use Rattle.line_texts.specs.Lines.{ended};
+ghost use Rattle.line_texts.specs.Words.{after_spaces, line};
 ghost use Rattle.plan_report.specs.GraphText as spec;
 
 use comp_graph::{Graph, Label, NoMemory, Node, Op, Operand, Output};
@@ -76,9 +78,9 @@ fn add_input(alloc: Global, text: &mut Vec<u8>, v: usize, name: &Label) -> Resul
 // Adds the line of an operation.
 fn add_operation(alloc: Global, text: &mut Vec<u8>, v: usize, node: &Node) -> Result<(), NoMemory>
     requires { length node.now.args ≡ 3 }
-    ensures { OnOk result (text.new.items ≡ text.old.items ++ (line (decimal v) (spec.op_word node.now.op ∷ map spec.operand_text (operands_of node.now)) ++ 10 ∷ [])) }
+    ensures { OnOk result (text.new.items ≡ text.old.items ++ (line (decimal v) (op_word node.now.op ∷ map spec.operand_text (operands_of node.now)) ++ 10 ∷ [])) }
 {
-    let word = op_word(node.op);
+    let word = node.op.word();
     let start = format!(in alloc; "{v} {word}")?;
     text.extend_from_slice(start.as_bytes())?;
     let arity = usize::from(node.op.arity());
@@ -119,25 +121,4 @@ fn add_output(alloc: Global, text: &mut Vec<u8>, output: &Output) -> Result<(), 
     let end = format!(in alloc; " v{vertex}\n")?;
     text.extend_from_slice(end.as_bytes())?;
     Ok(())
-}
-
-// The word of an operation.
-fn op_word(op: Op) -> &'static str
-    ensures { result.now ≡ spec.op_word op }
-{
-    match op {
-        Op::Input => "in",
-        Op::Set => "set",
-        Op::Add => "add",
-        Op::Sub => "sub",
-        Op::Mul => "mul",
-        Op::And => "and",
-        Op::Or => "or",
-        Op::Xor => "xor",
-        Op::Neg => "neg",
-        Op::Min => "min",
-        Op::Max => "max",
-        Op::Sel => "sel",
-        Op::Mad => "mad",
-    }
 }

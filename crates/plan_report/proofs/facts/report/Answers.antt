@@ -2,7 +2,7 @@
 use Rattle.std.proofs.Common.{◌≡◌, ℕ, List, [], ◌∷◌, ◌++◌, ap, ◌∙◌, append_assoc, refl}
 use Rattle.std.specs.Prelude.{codes}
 use Rattle.std.specs.Fmt.{decimal}
-use Rattle.plan_report.specs.Lines.{ended}
+use Rattle.line_texts.specs.Lines.{ended}
 use Rattle.plan_report.specs.ReportText.{remark, verdict_word}
 use Rattle.plan_report.proofs.facts.report.Goals as goal
 

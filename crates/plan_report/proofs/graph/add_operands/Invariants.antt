@@ -1,6 +1,6 @@
 -- The text so far and the operands that are left are the whole text.
 use Rattle.std.proofs.Common.{◌≡◌, ◌++◌, map, drop}
-use Rattle.plan_report.specs.Lines.{after_spaces}
+use Rattle.line_texts.specs.Words.{after_spaces}
 use Rattle.plan_report.specs.GraphText.{operand_text}
 use Rattle.plan_report.proofs.graph.add_operands.Given as goal
 

@@ -1,6 +1,6 @@
 -- The text so far and the vertices that are left are the whole text.
 use Rattle.std.proofs.Common.{◌≡◌, ◌++◌, drop}
-use Rattle.plan_report.specs.Lines.{ended}
+use Rattle.line_texts.specs.Lines.{ended}
 use Rattle.plan_report.specs.GraphText.{vertex_lines}
 use Rattle.plan_report.proofs.graph.add_vertices.Given as goal
 

@@ -1,6 +1,6 @@
 -- Before the output elements stand the first lines and those of the vertices.
 use Rattle.std.proofs.Common.{◌≡◌, ℕ, List, [], ◌∷◌, ◌++◌, map, refl, sym, ap, ◌∙◌, append_assoc}
-use Rattle.plan_report.specs.Lines.{ended}
+use Rattle.line_texts.specs.Lines.{ended}
 use Rattle.plan_report.specs.GraphText as spec
 use Rattle.plan_report.proofs.graph.graph_text.Goals as goal
 

@@ -1,6 +1,6 @@
 -- The text so far and the output elements that are left are the whole text.
 use Rattle.std.proofs.Common.{◌≡◌, ◌++◌, map, drop}
-use Rattle.plan_report.specs.Lines.{ended}
+use Rattle.line_texts.specs.Lines.{ended}
 use Rattle.plan_report.specs.GraphText.{output_line, graph_text}
 use Rattle.plan_report.proofs.graph.graph_text.Given as goal
 

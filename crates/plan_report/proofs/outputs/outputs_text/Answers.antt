@@ -4,7 +4,7 @@ use Rattle.std.specs.List.{zip}
 use Rattle.std.proofs.lemmas.List.{at_drop_more, at_drop_all, length_push}
 use Rattle.std.proofs.lemmas.Iterator.{YieldsList-from_slice, YieldsList-from_zip}
 use Rattle.std.proofs.lemmas.Iterator.Consumers.{YieldsList-turn, YieldsList-end}
-use Rattle.plan_report.specs.Lines.{ended}
+use Rattle.line_texts.specs.Lines.{ended}
 use Rattle.plan_report.specs.OutputsText.{value_line}
 use Rattle.plan_report.proofs.outputs.outputs_text.Goals as goal
 

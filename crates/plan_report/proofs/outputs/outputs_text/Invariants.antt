@@ -1,7 +1,7 @@
 -- The text so far and the elements that are left are the whole text.
 use Rattle.std.proofs.Common.{◌≡◌, ◌++◌, ℕ, ℤ, List, length, map, drop}
 use Rattle.std.specs.List.{zip}
-use Rattle.plan_report.specs.Lines.{ended}
+use Rattle.line_texts.specs.Lines.{ended}
 use Rattle.plan_report.specs.OutputsText.{value_line, outputs_text}
 use Rattle.plan_report.proofs.outputs.outputs_text.Given as goal
 

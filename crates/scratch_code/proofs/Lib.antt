@@ -1,0 +1,11 @@
+pub mod Names
+pub mod FirstWords
+pub mod Spellings
+pub mod Operands
+pub mod Fields
+pub mod Places
+pub mod Sections
+pub mod Reader
+pub mod Constants
+pub mod Guesses
+pub mod Decided
