@@ -1,0 +1,9 @@
+pub mod Paths
+pub mod Where
+pub mod Sets
+pub mod Below
+pub mod Ends
+pub mod DemandLaws
+pub mod SpreadLaws
+pub mod Taken
+pub mod OperandLaws

@@ -1,0 +1,58 @@
+//! The floor of a position, by passes over masks in the order of numbers.
+ghost use Rattle.std.specs.Prelude.{◌≡◌, ◌≤◌, length};
+ghost use Rattle.comp_graph.specs.Graphs.{dag_of};
+ghost use Rattle.comp_graph.specs.Games.{game_of};
+ghost use Rattle.forced_bounds.specs.Floor as floors;
+
+use crate::demand::wanted;
+use crate::operands::{all_in, read_by, some_in};
+use crate::spread::free_cone;
+use comp_graph::{Game, Graph, VertexSet};
+use pebble_rules::Position;
+
+/// The floor of a position: the store weight times the outputs that are not blue, plus the load weight times the loads that are forced. No
+/// play from the position that finishes costs less ([`crate::laws::floor_is_below_plays`]). It takes no memory.
+pub fn floor(game: &Game, p: &Position) -> u32
+    ensures value { result ≡ floors.floor (game_of game.now) p.now }
+    ensures few { result ≤ 8192 }
+{
+    let graph = game.graph();
+    let weights = game.weights();
+    let stores = graph.out_set().minus(&p.blue).count();
+    weights.store as u32 * stores as u32 + weights.load as u32 * forced_loads(graph, p) as u32
+}
+
+// How many loads are forced: the vertices are gone through in rising number, and one is taken that must become red, cannot without a
+// load, and whose cone meets no cone of one that was taken. `computed` are the vertices so far that can become red without a load, and
+// each vertex of `met` has a cone that meets one that was taken.
+fn forced_loads(graph: &Graph, p: &Position) -> u16
+    ensures value { result ≡ length (floors.taken (dag_of graph.now) p.now (length graph.now.nodes)) }
+    ensures few { result ≤ 256 }
+{
+    let targets = wanted(graph, p);
+    let inputs = graph.in_set();
+    let mut computed = p.red;
+    let mut met = VertexSet::empty();
+    let mut taken: u16 = 0;
+    for v in 0..targets.top {
+        if computed.has(v) {
+            continue;
+        }
+        let operands = read_by(graph, v);
+        if all_in(operands, &computed) && !inputs.has(v) {
+            computed = computed.with(v);
+        } else if some_in(operands, &met) {
+            met = met.with(v);
+        } else if targets.vertices.has(v) {
+            let first = graph.preds(v).minus(&computed);
+            match free_cone(graph, v, &first, &computed, &met) {
+                Some(cone) => {
+                    met = met.union(&cone);
+                    taken += 1;
+                }
+                None => met = met.with(v),
+            }
+        }
+    }
+    taken
+}

@@ -1,0 +1,12 @@
+//! The floor of a position of the game, and its laws.
+#![tactic(auto)]
+
+mod demand;
+pub mod evaluating;
+pub mod laws;
+mod operands;
+mod spread;
+#[cfg(test)]
+mod tests;
+
+pub use evaluating::floor;
