@@ -15,6 +15,8 @@
       prints each kernel's row of the table of graphs and plans in docs/KERNELS.md
   run_code.py document DOCUMENT KERNEL..
       checks that the document has each kernel's row, and that its rows of outputs are right
+  run_code.py gallery FOLDER KERNEL..
+      checks that the sources in the folder, which are tests, have the text of each kernel and no other, with the right numbers
 
 KERNEL, OUTPUT, TABLE, VALUES and DOCUMENT are files. Python 3 alone is needed. The exit status is 0 where all agrees, 1 where something
 does not (one line says what), and 2 for other words.
@@ -22,6 +24,8 @@ does not (one line says what), and 2 for other words.
 The kernels may use the whole language. The evaluator is for kernels without a fault: it stops at some of the faults, and tells none by
 its code.
 """
+import operator
+import os
 import re
 import struct
 import sys
@@ -30,7 +34,8 @@ from collections import namedtuple
 Kernel = namedtuple('Kernel', 'name declarations body')
 Declaration = namedtuple('Declaration', 'kind name sizes')
 Assign = namedtuple('Assign', 'target value')
-Loop = namedtuple('Loop', 'name first end body')
+Loop = namedtuple('Loop', 'name first end step body')
+Branch = namedtuple('Branch', 'left relation right taken other')
 Place = namedtuple('Place', 'name indices')
 Call = namedtuple('Call', 'word operands')                      # an operator is a call of its operation; a number is an int
 Trace = namedtuple('Trace', 'preds inputs outputs results lines')  # a graph, the numbers of the outputs, and the printed operations
@@ -46,6 +51,7 @@ OPERATIONS = {                                                  # how many opera
     'sel': (3, lambda c, a, b: a if c != 0 else b), 'mad': (3, lambda a, b, c: a * b + c),
 }
 WORD_OF_SIGN = {'+': 'add', '-': 'sub', '*': 'mul', '&': 'and', '|': 'or', '^': 'xor'}
+RELATIONS = {'==': operator.eq, '!=': operator.ne, '<': operator.lt, '<=': operator.le, '>': operator.gt, '>=': operator.ge}
 LEAST, GREATEST = -2 ** 63, 2 ** 63 - 1
 
 
@@ -71,7 +77,7 @@ def result_of(word, numbers):
 
 SPACE = re.compile(r'(?:[ \t\r\n]|//[^\n]*)*')
 NUMBER = re.compile(r'[0-9]+')
-SIGN = re.compile(r'\.\.|[{}\[\]();,=+\-*&|^]')
+SIGN = re.compile(r'\.\.|==|!=|<=|>=|[{}\[\]();,=+\-*&|^<>]')
 
 
 def name_end(text, at):
@@ -201,6 +207,8 @@ class Reader:
     def statement(self):
         if self.sees('for'):
             return self.loop()
+        if self.sees('if'):
+            return self.branch()
         target = self.place()
         self.sign('=')
         value = self.expression()
@@ -213,9 +221,25 @@ class Reader:
         self.sign('in')
         first = self.index()
         self.sign('..')
-        end = self.index()
+        end, step = self.index(), 1
+        if self.sees('by'):
+            self.sign('by')
+            step = self.index()
+        return Loop(name, first, end, step, self.block())
+
+    def branch(self):
+        self.sign('if')
+        left = self.index()
+        relation = self.next(lambda token: token in RELATIONS, 'a relation')
+        right, taken, other = self.index(), self.block(), []
+        if self.sees('else'):
+            self.sign('else')
+            other = self.block()
+        return Branch(left, relation, right, taken, other)
+
+    def block(self):
         self.sign('{')
-        return Loop(name, first, end, self.body())
+        return self.body()
 
     def body(self):
         body = []
@@ -235,12 +259,16 @@ class Reader:
         return kernel
 
 
-def read_kernel(path):
-    with open(path, 'rb') as file:
-        kernel = Reader(tokens_of(file.read())).kernel()
+def kernel_of(data):
+    kernel = Reader(tokens_of(data)).kernel()
     names = [declaration.name for declaration in kernel.declarations]
     demand(len(set(names)) == len(names), 'a name is declared twice')
     return kernel
+
+
+def read_kernel(path):
+    with open(path, 'rb') as file:
+        return kernel_of(file.read())
 
 
 # ---- runs of kernels
@@ -273,10 +301,15 @@ class Run:
         for statement in body:
             if isinstance(statement, Loop):
                 demand(statement.name not in self.open and statement.name not in self.kinds, f'{statement.name} is not new')
-                for turn in range(self.index(statement.first), self.index(statement.end)):
+                first, end, step = map(self.index, (statement.first, statement.end, statement.step))
+                demand(step >= 1, f'a loop has the step {step}')
+                for turn in range(first, end, step):
                     self.open[statement.name] = turn
                     self.execute(statement.body)
                 self.open.pop(statement.name, None)
+            elif isinstance(statement, Branch):
+                holds = RELATIONS[statement.relation](self.index(statement.left), self.index(statement.right))
+                self.execute(statement.taken if holds else statement.other)
             else:
                 value = self.value(statement.value)
                 demand(statement.target.name in self.kinds, f'{statement.target.name} is not declared')
@@ -284,7 +317,7 @@ class Run:
                 self.held[self.label(statement.target)] = value
 
     def index(self, index):
-        """The number of an index or a bound, which are made of numbers and open loops."""
+        """The number of an index, a bound, a step or a side, which are made of numbers and open loops."""
         if isinstance(index, int):
             number = index
         elif isinstance(index, Place):
@@ -565,6 +598,39 @@ def document(path, kernel_paths):
     print(f'{path}: {len(kernels)} kernels and {len(rows)} rows of outputs: agrees')
 
 
+TEXT = re.compile(r'const (\w+): &str =\s*"([^"\\]*)";')
+KNOWN = re.compile(r'text: (\w+),\s*vertices: (\d+),\s*inputs: (\d+),\s*degree: (\d+),\s*bound: (\d+),\s*costs: \[(.*?)\],\s*runs: \[(.*?)\n    \}',
+                   re.DOTALL)
+COST = re.compile(r'Cost\((\d+), (\d+)\)')
+RUN = re.compile(r'Run\(\s*"([^"]*)",\s*"([^"]*)",?\s*\)')
+
+
+def check_known(kernel, facts, costs, runs):
+    demand(facts_of(kernel) == Facts(*map(int, facts)), f'{kernel.name}: other numbers of the graph')
+    found = [(int(slots), int(cost)) for slots, cost in COST.findall(costs)]
+    demand([slots for slots, _ in found] == list(slots_of(facts_of(kernel))), f'{kernel.name}: other numbers of slots')
+    demand(all(first_cost(kernel, slots) == cost for slots, cost in found), f'{kernel.name}: other costs')
+    rows = RUN.findall(runs)
+    demand(len(rows) == 2, f'{kernel.name}: {len(rows)} runs')
+    for values, printed in rows:
+        results = trace_of(kernel, list(map(int, values.split()))).results
+        wanted = ''.join(f'{label} = {number}\\n' for label, number in zip(elements_of(kernel, 'out'), results))
+        demand(printed == wanted, f'{kernel.name}: other outputs on {values}')
+
+
+def gallery(folder, kernel_paths):
+    source = ''.join(read_text(os.path.join(folder, name)) for name in sorted(os.listdir(folder)))
+    texts = dict(TEXT.findall(source))
+    for path in kernel_paths:
+        demand(read_text(path) in texts.values(), f'{folder} lacks the text of {path}')
+    demand(len(texts) == len(kernel_paths), f'{folder} has {len(texts)} texts of kernels')
+    rows = KNOWN.findall(source)
+    demand(sorted(row[0] for row in rows) == sorted(texts), f'{folder} has a row for other texts')
+    for name, *facts, costs, runs in rows:
+        check_known(kernel_of(texts[name].encode()), facts, costs, runs)
+    print(f'{folder}: {len(texts)} kernels: agrees')
+
+
 def main(words):
     try:
         if len(words) == 6 and words[0] == 'check':
@@ -581,6 +647,8 @@ def main(words):
             print('\n'.join(row_of(read_kernel(path)) for path in words[1:]))
         elif len(words) >= 3 and words[0] == 'document':
             document(words[1], words[2:])
+        elif len(words) >= 3 and words[0] == 'gallery':
+            gallery(words[1], words[2:])
         else:
             print(__doc__, file=sys.stderr)
             return 2
