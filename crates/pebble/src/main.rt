@@ -2,7 +2,7 @@
 #![tactic(auto)]
 
 use desk_io::RealDesk;
-use pebble_cli::{file_word, pebble};
+use pebble_cli::{Status, file_word, pebble};
 use std::process::ExitCode;
 use std::rt::Env;
 use std::{env, io};
@@ -19,14 +19,22 @@ fn words(rt: &(impl Env + AllocGlobal)) -> io::Result<Vec<String>> {
     Ok(words)
 }
 
-// The number of the status, or none where the words cannot be had.
-fn run(rt: &HostRuntime) -> Option<u8> {
-    let words = words(rt).ok()?;
-    let name = String::from_str(rt.alloc(), file_word(&words)).ok()?;
+// The number of the status.
+fn run(rt: &HostRuntime) -> u8 {
+    let words = match words(rt) {
+        Ok(words) => words,
+        Err(error) if error.kind() == io::ErrorKind::OutOfMemory => {
+            return Status::NoMemory.number();
+        }
+        Err(_) => return NO_WORDS,
+    };
+    let Ok(name) = String::from_str(rt.alloc(), file_word(&words)) else {
+        return Status::NoMemory.number();
+    };
     let mut desk = RealDesk::new(rt, name);
-    Some(pebble(rt.alloc(), &words, &mut desk).number())
+    pebble(rt.alloc(), &words, &mut desk).number()
 }
 
 fn main(rt: HostRuntime) -> ExitCode {
-    ExitCode::from(run(&rt).unwrap_or(NO_WORDS))
+    ExitCode::from(run(&rt))
 }

@@ -1,11 +1,15 @@
+-- What the proofs of this crate share.
 pub mod Accepting
-pub mod Answering
-pub mod BoundCalls
-pub mod Causes
-pub mod Closing
-pub mod Cut
-pub mod GraphValues
-pub mod Planning
-pub mod Replies
+pub mod AnswerLaws
+pub mod CommandLaws
+pub mod Delivering
+pub mod FirstPlans
+pub mod GraphKept
+pub mod KernelAnswers
+pub mod LastAnswers
+pub mod PlanKept
+pub mod RunKept
 pub mod Running
-pub mod Told
+pub mod SubjectAnswers
+pub mod ToldBytes
+pub mod WordLimits

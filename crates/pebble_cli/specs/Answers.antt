@@ -1,126 +1,50 @@
 -- What the program answers to its words, its input and its file: the status, the printed text, and the table that is written, if one is.
-use Rattle.std.specs.Prelude.{◌≡◌, ◌⊎◌, ℕ, ◌+◌, ◌≤◌, Bool, true, false, List, ◌++◌, codes, Option, None, Some}
-use Rattle.std.specs.Fmt.{decimal}
-use Rattle.desk_io.specs.declared.desk.Kind.{Kind}
-use Rattle.desk_io.specs.declared.desk.Kind.TheVariants.{TakeInput, TakeFile, PutOutput, PutFile, ClearFile}
-use Rattle.desk_io.specs.Counts.{Rose}
-use Rattle.desk_io.specs.Known.{Tells}
+-- Each command has its own last answers, in a file of its own; before them stand the refusals, which go by its subject and its slots.
+use Rattle.std.specs.Prelude.{◌≡◌, ℕ, ◌<◌, List, Option, None, Some}
 use Rattle.comp_graph.specs.Dags.{degree}
-use Rattle.comp_graph.specs.Games.{game_on}
-use Rattle.pebble_rules.specs.declared.moves.Move.{Move}
-use Rattle.pebble_rules.specs.Rules.{start, IsComplete}
 use Rattle.comp_graph.specs.Graphs.{GraphParts, dag_of}
+use Rattle.desk_io.specs.Known.{Tells}
 use Rattle.kernel_ast.specs.KernelParts.{KernelParts}
+use Rattle.pebble_cli.specs.declared.commands.Command.{Command}
+use Rattle.pebble_cli.specs.declared.commands.Command.TheVariants.{Plan, Run, Graph}
 use Rattle.pebble_cli.specs.declared.status.Status.{Status}
-use Rattle.pebble_cli.specs.declared.status.Status.TheVariants.{Optimal, Done, Usage, Kernel, TooSmall, Open, ReadFault, WriteFault, NoMemory, Values}
-use Rattle.pebble_cli.specs.declared.words.Command.{Command}
-use Rattle.pebble_cli.specs.declared.words.Command.TheVariants as asked
-use Rattle.pebble_cli.specs.Accepted.{IsAccepted, IsKernelFault}
+use Rattle.pebble_cli.specs.Accepted.{IsAccepted}
+use Rattle.pebble_cli.specs.Commands.{subject, slots_of, kernel_text}
+use Rattle.pebble_cli.specs.GraphAnswers.{IsDrawn}
 use Rattle.pebble_cli.specs.PlanAnswers.{IsPlanned}
-use Rattle.pebble_cli.specs.RunAnswers.{IsDrawn, IsValued, IsWrongValues}
+use Rattle.pebble_cli.specs.Refusals.{IsUsage, IsFaulty, IsTooSmall}
+use Rattle.pebble_cli.specs.RunAnswers.{Runs}
 
--- the line that says which words there are
-abbrev pub usage_text : List ℕ
-usage_text = codes "usage: pebble plan S TABLE [BUDGET], check S TABLE, run VALUES, exec VALUES, graph, trial N S TABLE\n"
+-- the last answers of each command to an input and a file, as far as the desk tells the file
+abbrev pub LastAnswers : Command → List ℕ → Option (Option (List ℕ)) → Status → List ℕ → Option (List ℕ) → Type 0
+LastAnswers (Plan asked) input file = IsPlanned asked input
+LastAnswers Run input file = Runs input file
+LastAnswers Graph input file = IsDrawn input
 
--- the line for a fault of the kernel, with its code and its place in bytes from 0
-abbrev pub kernel_fault_text : ℕ → ℕ → List ℕ
-kernel_fault_text code at = codes "kernel fault K" ++ (decimal code ++ (codes " at " ++ (decimal at ++ codes "\n")))
+-- The status, the text and the table that answer words with this input and this file, as far as the desk tells the file: words that
+-- spell no command, a kernel with a fault, too few slots, and else an answer of the command's own.
+pub data Answers (command : Option Command) (input : List ℕ) (file : Option (Option (List ℕ))) (status : Status) (printed : List ℕ) (table : Option (List ℕ)) : Type 0 where
+  usage : command ≡ None → IsUsage status printed table → Answers command input file status printed table
+  faulty_kernel : (asked : Command) (text : List ℕ) → command ≡ Some asked → kernel_text (subject asked) input ≡ Some text
+      → IsFaulty text status printed table → Answers command input file status printed table
+  too_few_slots : (asked : Command) (text : List ℕ) (slots : ℕ) → command ≡ Some asked → kernel_text (subject asked) input ≡ Some text
+      → slots_of asked ≡ Some slots → IsTooSmall slots text status printed table → Answers command input file status printed table
+  last_answer : (asked : Command) → command ≡ Some asked → LastAnswers asked input file status printed table
+      → Answers command input file status printed table
 
--- the line that says how many slots are needed
-abbrev pub too_small_text : ℕ → List ℕ
-too_small_text needs = codes "too small needs " ++ decimal needs ++ codes "\n"
-
--- the usage line is printed, and no table is written
-pub record IsUsage (printed : List ℕ) (table : Option (List ℕ)) : Type 0 where
-  pub line : printed ≡ usage_text
-  pub none : table ≡ None
-
--- the text has a fault, which is printed by its code and place, and no table is written
-pub record IsFaulty (text : List ℕ) (printed : List ℕ) (table : Option (List ℕ)) : Type 0 where
-  pub code : ℕ
-  pub at : ℕ
-  pub fault : IsKernelFault text code at
-  pub line : printed ≡ kernel_fault_text code at
-  pub none : table ≡ None
-
--- there are no more slots than the degree of the text's graph, so there is no complete pebbling; the degree plus 1 is printed, and no
--- table is written
-pub record IsTooSmall (slots : ℕ) (text : List ℕ) (printed : List ℕ) (table : Option (List ℕ)) : Type 0 where
+-- the text is accepted, and where there are slots they are more than the degree of its graph
+pub record HasRoom (slots : Option ℕ) (text : List ℕ) : Type 0 where
   pub kernel : KernelParts
   pub graph : GraphParts
   pub accepted : IsAccepted text kernel graph
-  pub small : slots ≤ degree (dag_of graph)
-  pub impossible : (moves : List Move) → IsComplete (game_on graph slots) (start (game_on graph slots)) moves → ⊥
-  pub line : printed ≡ too_small_text (degree (dag_of graph) + 1)
-  pub none : table ≡ None
+  pub room : (count : ℕ) → slots ≡ Some count → degree (dag_of graph) < count
 
--- a text that is not accepted
-abbrev pub Faults : List ℕ → Status → List ℕ → Option (List ℕ) → Type 0
-Faults text Kernel printed table = IsFaulty text printed table
-Faults text _ printed table = ⊥
+-- nothing refuses the command with this input: its kernel is accepted, and its slots are enough for it
+pub data IsAdmitted (asked : Command) (input : List ℕ) : Type 0 where
+  kernel_with_room : (text : List ℕ) → kernel_text (subject asked) input ≡ Some text → HasRoom (slots_of asked) text → IsAdmitted asked input
 
--- a text that is not planned
-abbrev pub Refuses : ℕ → List ℕ → Status → List ℕ → Option (List ℕ) → Type 0
-Refuses slots text Kernel printed table = IsFaulty text printed table
-Refuses slots text TooSmall printed table = IsTooSmall slots text printed table
-Refuses slots text _ printed table = ⊥
-
--- a text that is planned
-abbrev pub Plans : ℕ → ℕ → List ℕ → Status → List ℕ → Option (List ℕ) → Type 0
-Plans slots budget text Optimal printed table = IsPlanned slots budget text true printed table
-Plans slots budget text Open printed table = IsPlanned slots budget text false printed table
-Plans slots budget text _ printed table = ⊥
-
--- a text whose graph is printed
-abbrev pub Draws : List ℕ → Status → List ℕ → Option (List ℕ) → Type 0
-Draws text Done printed table = IsDrawn text printed table
-Draws text _ printed table = ⊥
-
--- a text that is run on the values of a file, as far as the desk tells the file
-abbrev pub Runs : List ℕ → Option (Option (List ℕ)) → Status → List ℕ → Option (List ℕ) → Type 0
-Runs text file Done printed table = IsValued text file printed table
-Runs text file Values printed table = IsWrongValues text file printed table
-Runs text file _ printed table = ⊥
-
--- the status of a verdict
-abbrev pub verdict_status : Bool → Status
-verdict_status true = Optimal
-verdict_status false = Open
-
--- the status, the text and the table that answer a command with this input and this file, as far as the desk tells the file; words that
--- spell no command answer Usage
-abbrev pub Answers : Option Command → List ℕ → Option (Option (List ℕ)) → Status → List ℕ → Option (List ℕ) → Type 0
-Answers None text file status printed table = (status ≡ Usage) × IsUsage printed table
-Answers (Some (asked.Plan slots budget)) text file status printed table = Refuses slots text status printed table ⊎ Plans slots budget text status printed table
-Answers (Some asked.Run) text file status printed table = Faults text status printed table ⊎ Runs text file status printed table
-Answers (Some asked.Graph) text file status printed table = Faults text status printed table ⊎ Draws text status printed table
-
--- the input is one that is accepted, as far as the desk tells it
-pub record HasAccepted (input : Option (List ℕ)) : Type 0 where
+-- the input is one that is admitted to the command, as far as the desk tells it
+pub record HasAdmitted (asked : Command) (input : Option (List ℕ)) : Type 0 where
   pub text : List ℕ
   pub told : Tells input text
-  pub kernel : KernelParts
-  pub graph : GraphParts
-  pub accepted : IsAccepted text kernel graph
-
--- a take failed that the command makes; the values file is read only where the kernel is accepted
-abbrev pub ReadCause : Option Command → Option (List ℕ) → (Kind → ℕ) → (Kind → ℕ) → Type 0
-ReadCause None input before now = ⊥
-ReadCause (Some (asked.Plan slots budget)) input before now = Rose (before TakeInput) (now TakeInput)
-ReadCause (Some asked.Run) input before now = Rose (before TakeInput) (now TakeInput) ⊎ (Rose (before TakeFile) (now TakeFile) × HasAccepted input)
-ReadCause (Some asked.Graph) input before now = Rose (before TakeInput) (now TakeInput)
-
--- a status that is answered to an input that was read to its end
-abbrev pub IsOfRead : Status → Type 0
-IsOfRead status = (status ≡ Optimal) ⊎ ((status ≡ Open) ⊎ ((status ≡ TooSmall) ⊎ ((status ≡ Done) ⊎ (status ≡ Values))))
-
--- the result is the status, or one of the three answers that may stand in its place: a read fault, a write fault, want of memory
-abbrev pub IsYielded : Status → Status → Type 0
-IsYielded result status = (result ≡ status) ⊎ ((result ≡ ReadFault) ⊎ ((result ≡ WriteFault) ⊎ (result ≡ NoMemory)))
-
--- the counts of the calls that write stay as they were
-pub record SameWriteFaults (before now : Kind → ℕ) : Type 0 where
-  pub output : now PutOutput ≡ before PutOutput
-  pub file : now PutFile ≡ before PutFile
-  pub clear : now ClearFile ≡ before ClearFile
+  pub admitted : IsAdmitted asked text

@@ -1,5 +1,5 @@
--- The numbers of the statuses (this project's convention).
-use Rattle.std.specs.Prelude.{ℕ}
+-- The numbers of the statuses, and which stand where in a run (this project's convention).
+use Rattle.std.specs.Prelude.{◌≡◌, ◌⊎◌, ℕ, Bool, true, false}
 use Rattle.pebble_cli.specs.declared.status.Status.{Status}
 use Rattle.pebble_cli.specs.declared.status.Status.TheVariants.{Optimal, Done, Refused, Usage, Kernel, TooSmall, Open, ReadFault, WriteFault, NoMemory, Code, Values, ExecFault}
 
@@ -18,3 +18,22 @@ status_number NoMemory = 8
 status_number Code = 9
 status_number Values = 10
 status_number ExecFault = 11
+
+-- an answer that a command gives where nothing refuses its words or its subject and no call of the desk fails
+abbrev pub is_last : Status → Bool
+is_last Usage = false
+is_last Kernel = false
+is_last TooSmall = false
+is_last ReadFault = false
+is_last WriteFault = false
+is_last NoMemory = false
+is_last Code = false
+is_last status = true
+
+-- an answer that comes once the whole subject is known: of a command whose subject stands in the input, once the input is read to its end
+abbrev pub IsOfRead : Status → Type 0
+IsOfRead status = (status ≡ TooSmall) ⊎ (is_last status ≡ true)
+
+-- the result is the status, or one of the three answers that may stand in its place: a read fault, a write fault, want of memory
+abbrev pub IsYielded : Status → Status → Type 0
+IsYielded result status = (result ≡ status) ⊎ ((result ≡ ReadFault) ⊎ ((result ≡ WriteFault) ⊎ (result ≡ NoMemory)))

@@ -1,11 +1,12 @@
 -- What the words of a command line spell.
-use Rattle.std.specs.Prelude.{ℕ, ◌≤◌, ◌+◌, ◌-◌, ◌*◌, ◌==◌, ◌&&◌, ◌||◌, not, nat_le, Bool, List, [], ◌∷◌, length, slice_index, slice_index_or, codes, None, Some, if◌then◌else◌}
+use Rattle.std.specs.Prelude.{ℕ, ◌≤◌, ◌+◌, ◌-◌, ◌*◌, ◌==◌, ◌&&◌, ◌||◌, not, nat_le, Bool, List, [], ◌∷◌, length, map, slice_index, slice_index_or, codes, None, Some, if◌then◌else◌, String, string_bytes}
+use Rattle.std.specs.declared.alloc.Global.{Global}
 use Rattle.std.specs.declared.option.Option.{Option}
 use Rattle.std.specs.Char.{is_ascii_digit}
 use Rattle.std.specs.List.{list_all}
 use Rattle.std.specs.Str.{bytes_eq}
-use Rattle.pebble_cli.specs.declared.words.Command.{Command}
-use Rattle.pebble_cli.specs.declared.words.Command.TheVariants.{Plan, Run, Graph}
+use Rattle.pebble_cli.specs.declared.commands.Command.{Command}
+use Rattle.pebble_cli.specs.declared.commands.Command.TheVariants.{Plan, Run, Graph}
 
 -- the number that digits spell, after the digits so far
 abbrev pub digits_after : ℕ → List ℕ → ℕ
@@ -22,11 +23,12 @@ is_plain word = not (length word == 0) && are_digits word && ((length word == 1)
 
 -- the number from low to high that a word spells in plain decimal
 abbrev pub number : ℕ → ℕ → List ℕ → Option ℕ
-number low high word = if is_plain word && nat_le low (digits_after 0 word) && nat_le (digits_after 0 word) high then Some (digits_after 0 word) else None
+number low high word =
+    if is_plain word && nat_le low (digits_after 0 word) && nat_le (digits_after 0 word) high then Some (digits_after 0 word) else None
 
 -- the plan, where there are slots, a budget, and a table's name that is not empty
 abbrev pub plan_command : Option ℕ → List ℕ → Option ℕ → Option Command
-plan_command (Some slots) (c ∷ table) (Some budget) = Some (Plan slots budget)
+plan_command (Some slots) (c ∷ table) (Some budget) = Some (Plan (record { slots = slots; budget = budget }))
 plan_command _ _ _ = None
 
 -- the run, where there is a name of a values file that is not empty
@@ -39,8 +41,13 @@ run_command (c ∷ values) = Some Run
 abbrev pub command : List (List ℕ) → Option Command
 command (name ∷ []) = if bytes_eq name (codes "graph") then Some Graph else None
 command (name ∷ values ∷ []) = if bytes_eq name (codes "run") then run_command values else None
-command (name ∷ slots ∷ table ∷ budget ∷ []) = if bytes_eq name (codes "plan") then plan_command (number 1 64 slots) table (number 0 0 budget) else None
+command (name ∷ slots ∷ table ∷ budget ∷ []) =
+    if bytes_eq name (codes "plan") then plan_command (number 1 64 slots) table (number 0 0 budget) else None
 command _ = None
+
+-- the command that the program's words spell
+abbrev pub asked_by : List (String Global) → Option Command
+asked_by words = command (map string_bytes words)
 
 -- the word at a place, or the empty text
 abbrev pub word_at : ℕ → List (List ℕ) → List ℕ
@@ -58,8 +65,12 @@ file_word (name ∷ rest) =
     else (if is_either name (codes "run") (codes "exec") then word_at 0 rest
     else (if bytes_eq name (codes "trial") then word_at 2 rest else []))
 
+-- the name of the file by the program's words
+abbrev pub file_named_by : List (String Global) → List ℕ
+file_named_by words = file_word (map string_bytes words)
+
 -- the numbers of a command are in range
 abbrev pub IsInLimits : Command → Type 0
-IsInLimits (Plan slots budget) = (1 ≤ slots) × (slots ≤ 64) × (budget ≤ 0)
+IsInLimits (Plan asked) = (1 ≤ asked.slots) × (asked.slots ≤ 64) × (asked.budget ≤ 0)
 IsInLimits Run = Unit {0}
 IsInLimits Graph = Unit {0}

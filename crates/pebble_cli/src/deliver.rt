@@ -10,11 +10,14 @@ use desk_io::{Desk, WriteFault, write_file, write_output};
 /// Writes the table to the file, if there is one, and then the text to the output. Where the table is not written whole, nothing is
 /// printed; where the text is not printed whole, a prefix of it is.
 pub fn deliver<D: Desk>(desk: &mut D, answer: &Answer) -> Result<(), WriteFault>
-    ensures ok { OnOk result (Delivered D.file D.output desk.old desk.new answer.now.text.items (file_items answer.now.table)) }
-    ensures fault { OnErr result (CutShort D.file D.output D.faults desk.old desk.new answer.now.text.items (file_items answer.now.table)) }
+    ensures ok { OnOk result (Delivered D.file D.output desk.old desk.new
+        answer.now.text.items (file_items answer.now.table)) }
+    ensures fault { OnErr result (CutShort D.file D.output D.faults desk.old desk.new
+        answer.now.text.items (file_items answer.now.table)) }
     ensures same_name { D.name desk.new ≡ D.name desk.old }
     ensures same_input { D.input desk.new ≡ D.input desk.old }
-    ensures same_taken { (D.faults desk.new Kind.TakeInput ≡ D.faults desk.old Kind.TakeInput) × (D.faults desk.new Kind.TakeFile ≡ D.faults desk.old Kind.TakeFile) }
+    ensures same_taken { (D.faults desk.new Kind.TakeInput ≡ D.faults desk.old Kind.TakeInput)
+        × (D.faults desk.new Kind.TakeFile ≡ D.faults desk.old Kind.TakeFile) }
 {
     if let Some(table) = &answer.table {
         write_file(desk, table)?;

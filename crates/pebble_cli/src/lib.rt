@@ -2,17 +2,19 @@
 #![tactic(auto)]
 
 mod answer;
-mod bound;
+mod commands;
 mod deliver;
+#[cfg(test)]
+mod failing_desks;
 mod kernel;
 pub mod laws;
+mod prepare;
+mod reading;
 mod status;
-mod table;
-mod texts;
 mod top;
 mod words;
 
+pub use commands::{Command, Planning, Subject};
 pub use status::Status;
 pub use top::{pebble, pebble_honest};
-pub use words::Command;
 pub use words::read::file_word;

@@ -1,27 +1,24 @@
 //! The answer of `run`.
-ghost use Rattle.std.specs.Prelude.{◌≡◌, ◌⊎◌, ◌≤◌, ℕ, List, map, length, IfOk, IfErr, None};
+ghost use Rattle.std.specs.Prelude.{◌≡◌, ◌≤◌, ℕ, List, map, length, IfOk, None};
 ghost use Rattle.std.specs.declared.option.Option.{Option};
 ghost use Rattle.comp_graph.specs.declared.node.Output.{Output};
-ghost use Rattle.desk_io.specs.declared.desk.Kind.{Kind};
-ghost use Rattle.desk_io.specs.Counts.{Rose};
 ghost use Rattle.desk_io.specs.Known.{TellsFile, file_items};
 ghost use Rattle.plan_report.specs.OutputsText.{outputs_text};
 ghost use Rattle.pebble_cli.specs.Accepted.{IsAccepted};
-ghost use Rattle.pebble_cli.specs.Answers.{Runs, SameWriteFaults};
-ghost use Rattle.pebble_cli.specs.RunAnswers.{IsNoValuesFile, values_fault_text};
+ghost use Rattle.pebble_cli.specs.MadeAnswers.{Meets, IsFileOf};
+ghost use Rattle.pebble_cli.specs.RunAnswers.{Runs, values_fault_text};
 
-use super::Answer;
+use super::{Answer, FileBytes};
 use crate::kernel::Accepted;
 use crate::status::Status;
 use comp_graph::{Graph, Label, NoMemory};
-use desk_io::{Desk, ReadEnd, read_file};
 use plan_report::outputs_text;
 use source_machine::{RunEnd, run};
 use std::alloc::Global;
 use values_text::{ValuesEnd, read_values};
 
 /// The most bytes of a values file.
-const VALUES_LIMIT: u32 = 1_000_000;
+pub const VALUES_LIMIT: u32 = 1_000_000;
 
 // The answer where the file holds no values of the kernel.
 fn values_fault(alloc: Global) -> Result<Answer, NoMemory>
@@ -52,7 +49,8 @@ fn output_labels(alloc: Global, graph: &Graph) -> Result<Vec<Label>, NoMemory>
 fn valued(alloc: Global, graph: &Graph, outputs: &[i64]) -> Result<Answer, NoMemory>
     requires { length graph.now.outputs ≡ length outputs.now }
     ensures status { IfOk result (λ answer. answer.status ≡ Status.Done) }
-    ensures text { IfOk result (λ answer. answer.text.items ≡ outputs_text (map (λ (o : Output). o.label) graph.now.outputs) outputs.now) }
+    ensures text { IfOk result (λ answer.
+        answer.text.items ≡ outputs_text (map (λ (o : Output). o.label) graph.now.outputs) outputs.now) }
     ensures none { IfOk result (λ answer. file_items answer.table ≡ None) }
 {
     let labels = output_labels(alloc, graph)?;
@@ -67,8 +65,9 @@ fn valued(alloc: Global, graph: &Graph, outputs: &[i64]) -> Result<Answer, NoMem
 fn values_answer(alloc: Global, accepted: &Accepted, bytes: &[u8]) -> Result<Answer, NoMemory>
     requires short { length bytes.now ≤ 1000000 }
     requires accepted { (text : List ℕ) × IsAccepted text accepted.now.kernel accepted.now.graph }
-    ensures { IfOk result (λ answer. (text : List ℕ) (file : Option (Option (List ℕ))) → IsAccepted text accepted.now.kernel accepted.now.graph
-        → TellsFile file bytes.now → Runs text file answer.status answer.text.items (file_items answer.table)) }
+    ensures { IfOk result (λ answer. (text : List ℕ) (file : Option (Option (List ℕ))) →
+        IsAccepted text accepted.now.kernel accepted.now.graph → TellsFile file bytes.now →
+        Meets (Runs text file) answer) }
 {
     let values = match read_values(alloc, bytes) {
         Ok(values) => values,
@@ -79,33 +78,21 @@ fn values_answer(alloc: Global, accepted: &Accepted, bytes: &[u8]) -> Result<Ans
         Ok(outputs) => valued(alloc, &accepted.graph, &outputs),
         Err(RunEnd::WrongCount { .. }) => values_fault(alloc),
         // The kernel has a graph, so its run has no fault.
-        Err(RunEnd::Shape { .. }) => values_fault(alloc),
+        Err(RunEnd::Shape { .. }) => unreachable!(),
         Err(RunEnd::NoMemory) => Err(NoMemory),
     }
 }
 
-/// The answer of `run` to an accepted kernel: the outputs on the values in the file, or that it holds no values of the kernel. A take from
-/// the file that fails is `ReadFault`.
-pub fn run_answer<D: Desk>(
-    alloc: Global,
-    desk: &mut D,
-    accepted: &Accepted,
-) -> Result<Answer, Status>
-    requires { (text : List ℕ) × IsAccepted text accepted.now.kernel accepted.now.graph }
-    ensures answers { IfOk result (λ answer. (text : List ℕ) → IsAccepted text accepted.now.kernel accepted.now.graph
-        → Runs text (D.file desk.old) answer.status answer.text.items (file_items answer.table)) }
-    ensures refusal { IfErr result (λ status. (status ≡ Status.NoMemory)
-        ⊎ ((status ≡ Status.ReadFault) × Rose (D.faults desk.old Kind.TakeFile) (D.faults desk.new Kind.TakeFile))) }
-    ensures write_faults { SameWriteFaults (D.faults desk.old) (D.faults desk.new) }
-    ensures same_name { D.name desk.new ≡ D.name desk.old }
-    ensures same_input { D.input desk.new ≡ D.input desk.old }
-    ensures same_file { D.file desk.new ≡ D.file desk.old }
-    ensures same_output { D.output desk.new ≡ D.output desk.old }
+/// The answer of `run` to an accepted kernel and what its file holds: the outputs on the values, or that they are no values of the kernel.
+pub fn run_answer(alloc: Global, accepted: &Accepted, file: &FileBytes) -> Result<Answer, NoMemory>
+    requires limit { (held : Option (Option (List ℕ))) × IsFileOf held 1000000 file.now }
+    requires accepted { (text : List ℕ) × IsAccepted text accepted.now.kernel accepted.now.graph }
+    ensures { IfOk result (λ answer. (text : List ℕ) (held : Option (Option (List ℕ))) →
+        IsAccepted text accepted.now.kernel accepted.now.graph → IsFileOf held 1000000 file.now →
+        Meets (Runs text held) answer) }
 {
-    match read_file(alloc, desk, VALUES_LIMIT) {
-        Ok(bytes) => Ok(values_answer(alloc, accepted, &bytes)?),
-        Err(ReadEnd::TooLong) => Ok(values_fault(alloc)?),
-        Err(ReadEnd::ReadFault) => Err(Status::ReadFault),
-        Err(ReadEnd::NoMemory) => Err(Status::NoMemory),
+    match file {
+        FileBytes::Whole(bytes) => values_answer(alloc, accepted, bytes),
+        FileBytes::TooLong => values_fault(alloc),
     }
 }

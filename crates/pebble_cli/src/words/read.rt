@@ -1,8 +1,8 @@
 //! What the words of a command line spell.
 ghost use Rattle.std.specs.Prelude.{◌≡◌, ◌≤◌, ◌^◌, ◌<◌, true, ◌∷◌, [], length, SomeIff, IfSome, map, string_bytes};
-ghost use Rattle.pebble_cli.specs.Words.{are_digits, is_plain, digits_after, number, command, file_word, word_at, IsInLimits};
+ghost use Rattle.pebble_cli.specs.Words.{are_digits, is_plain, digits_after, number, command, asked_by, file_named_by, word_at, IsInLimits};
 
-use super::Command;
+use crate::commands::{Command, Planning};
 
 /// The greatest number of slots.
 const MOST_SLOTS: u32 = 64;
@@ -56,7 +56,7 @@ fn number(low: u32, high: u32, word: &str) -> Option<u32>
 /// The command that the words spell: `plan S TABLE 0`, with S from 1 to 64 in plain decimal and TABLE any word that is not empty; `run
 /// VALUES`, with VALUES any word that is not empty; or `graph`. All other words spell none.
 pub fn command(words: &[String]) -> Option<Command>
-    ensures value { result ≡ command (map string_bytes words.now) }
+    ensures value { result ≡ asked_by words.now }
     ensures limits { IfSome result IsInLimits }
 {
     match words {
@@ -105,16 +105,16 @@ fn plan_command(name: &str, slots: &str, table: &str, budget: &str) -> Option<Co
     }
     let slots = number(1, MOST_SLOTS, slots)?;
     let budget = number(0, MOST_BUDGET, budget)?;
-    Some(Command::Plan {
+    Some(Command::Plan(Planning {
         slots: slots as u16,
         budget,
-    })
+    }))
 }
 
 /// The word that names the file: the third after `plan` or `check`, the second after `run` or `exec`, the fourth after `trial`. Where
 /// there is no such word, the empty text. It takes no memory.
 pub fn file_word(words: &[String]) -> &str
-    ensures { result.now ≡ file_word (map string_bytes words.now) }
+    ensures { result.now ≡ file_named_by words.now }
 {
     let [name, rest @ ..] = words else {
         return "";

@@ -1,5 +1,5 @@
-use super::Command;
 use super::read::{command, file_word};
+use crate::commands::{Command, Planning};
 use std::alloc::{AllocError, Global};
 use std::test::Fail;
 
@@ -15,10 +15,10 @@ fn words(alloc: Global, line: &str) -> Result<Vec<String>, AllocError> {
 #[test]
 fn commands(rt: HostRuntime) -> Result<(), Fail> {
     let plan = words(rt.alloc(), "plan 2 t 0")?;
-    let asked = Command::Plan {
+    let asked = Command::Plan(Planning {
         slots: 2,
         budget: 0,
-    };
+    });
     assert_eq!(rt; command(&plan), Some(asked));
     let run = words(rt.alloc(), "run v")?;
     assert_eq!(rt; command(&run), Some(Command::Run));

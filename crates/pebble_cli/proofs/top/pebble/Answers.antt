@@ -1,132 +1,152 @@
-use Rattle.std.proofs.Common.{◌∙◌, inl, inr}
+-- What the answer that was made says of the run: where it was delivered, where a write failed, and where there is none.
+use Rattle.std.proofs.Common.{◌∙◌, inl, inr, subst, sym}
 use Rattle.desk_io.specs.Known.{file_items}
-use Rattle.pebble_cli.proofs.Causes.{no_table, verdict_of_plan, faulty_text, too_small_text_of}
-use Rattle.pebble_cli.proofs.Closing.{done_is, values_is}
-use Rattle.pebble_cli.proofs.Replies.{answers_at, answer_to_faulty, answer_to_small, answer_to_room, answer_to_tight, answer_to_loose, answer_to_wrong_values, answer_to_values, answer_to_draw, not_without_file}
-use Rattle.pebble_cli.proofs.Cut.{cut_rose, told_is}
+use Rattle.pebble_cli.specs.Answers.{Answers}
+use Rattle.pebble_cli.specs.Words.{asked_by}
+use Rattle.pebble_cli.proofs.AnswerLaws.{kind_of, one_answer, no_fault, usage_only, to_usage, tables_are_of_writers, refused_without_table, no_answer_without_file}
+use Rattle.pebble_cli.proofs.Delivering.{cut_rose, cut_from, cut_keeps, cause_of_end, no_table_keeps, cause_rose, no_cause, end_is_yielded, end_is_not_of_read, write_fault_is_not_of_read, end_is_fault_or_none, end_is_no_verdict, end_without_cause, answer_is_no_end, no_memory_is_no_fault, verdict_of_plan}
+use Rattle.pebble_cli.proofs.ToldBytes.{told_is}
 use Rattle.pebble_cli.proofs.top.pebble.Goals as goal
 
+-- ---- the answer was delivered
+
 pub returns-in-Ok-deliver-clause-headline : goal.returns-in-Ok-deliver-clause-headline
-returns-in-Ok-deliver-clause-headline g c verdict =
+returns-in-Ok-deliver-clause-headline g c asked asks verdict =
     let text = c.in-Ok.ensures.answers in
     let written = rw c.prepare.ensures.same_file at c.in-Ok-deliver.ensures.ok.written in
     let said = rw c.prepare.ensures.same_output at c.in-Ok-deliver.ensures.ok.said in
-    let plan = verdict_of_plan _ _ _ _ _ _ text.2 verdict in
-    (plan.0, plan.1, text.0, _, plan.2, plan.3, text.1, plan.4, said, rw plan.5 at written)
+    let plan = verdict_of_plan _ asked _ _ _ _ _ asks text.2 verdict in
+    (text.0, _, plan.0, text.1, plan.1, said, rw plan.2 at written)
 
-pub returns-in-Ok-deliver-clause-kernel_only : goal.returns-in-Ok-deliver-clause-kernel_only
-returns-in-Ok-deliver-clause-kernel_only g c is =
+pub returns-in-Ok-deliver-clause-said : goal.returns-in-Ok-deliver-clause-said
+returns-in-Ok-deliver-clause-said g c read write memory =
     let text = c.in-Ok.ensures.answers in
+    let answer = c.in-Ok.answer in
+    let written = rw c.prepare.ensures.same_file at c.in-Ok-deliver.ensures.ok.written in
     let said = rw c.prepare.ensures.same_output at c.in-Ok-deliver.ensures.ok.said in
-    let faulty = faulty_text _ _ _ _ _ _ text.2 is in
-    (text.0, faulty.code, faulty.at, text.1, faulty.fault, rw faulty.line at said)
+    (text.0, answer.text.items, file_items answer.table, text.1, text.2, record { written = written; said = said })
 
-pub returns-in-Ok-deliver-clause-kernel : goal.returns-in-Ok-deliver-clause-kernel
-returns-in-Ok-deliver-clause-kernel g c asked text code at asks input bad =
+pub returns-in-Ok-deliver-clause-write_fault : goal.returns-in-Ok-deliver-clause-write_fault
+returns-in-Ok-deliver-clause-write_fault g c fault =
+    let none = no_fault _ _ _ _ _ _ c.in-Ok.ensures.answers.2 in
+    absurd (none.1.0 fault)
+
+pub returns-in-Ok-deliver-clause-read_fault : goal.returns-in-Ok-deliver-clause-read_fault
+returns-in-Ok-deliver-clause-read_fault g c fault =
+    let none = no_fault _ _ _ _ _ _ c.in-Ok.ensures.answers.2 in
+    absurd (none.0 fault)
+
+pub returns-in-Ok-deliver-clause-determined : goal.returns-in-Ok-deliver-clause-determined
+returns-in-Ok-deliver-clause-determined g c text status printed table input file h =
     let told = c.in-Ok.ensures.answers in
-    let is = told_is _ told.0 text told.1 input in
-    inl (answer_to_faulty asked text (g.D.Desk.file c.args.desk.now) code at c.in-Ok.answer.status c.in-Ok.answer.text.items (file_items c.in-Ok.answer.table) (answers_at (g.D.Desk.file c.args.desk.now) c.in-Ok.answer.status c.in-Ok.answer.text.items (file_items c.in-Ok.answer.table) asks is told.2) bad)
-
-pub returns-in-Ok-deliver-clause-too_small_only : goal.returns-in-Ok-deliver-clause-too_small_only
-returns-in-Ok-deliver-clause-too_small_only g c is =
-    let text = c.in-Ok.ensures.answers in
-    let said = rw c.prepare.ensures.same_output at c.in-Ok-deliver.ensures.ok.said in
-    let small = too_small_text_of _ _ _ _ _ _ text.2 is in
-    (small.0, small.1, text.0, small.3.kernel, small.3.graph, small.2, text.1, small.3.accepted, small.3.small, small.3.impossible, rw small.3.line at said)
-
-pub returns-in-Ok-deliver-clause-too_small : goal.returns-in-Ok-deliver-clause-too_small
-returns-in-Ok-deliver-clause-too_small g c slots budget text kernel graph asks input accepted small =
-    let told = c.in-Ok.ensures.answers in
-    let is = told_is _ told.0 text told.1 input in
-    inl (answer_to_small slots budget text (g.D.Desk.file c.args.desk.now) kernel graph c.in-Ok.answer.status c.in-Ok.answer.text.items (file_items c.in-Ok.answer.table) (answers_at (g.D.Desk.file c.args.desk.now) c.in-Ok.answer.status c.in-Ok.answer.text.items (file_items c.in-Ok.answer.table) asks is told.2) accepted small)
-
-pub returns-in-Ok-deliver-clause-complete : goal.returns-in-Ok-deliver-clause-complete
-returns-in-Ok-deliver-clause-complete g c slots budget text kernel graph asks input accepted room calm =
-    let told = c.in-Ok.ensures.answers in
-    let is = told_is _ told.0 text told.1 input in
-    elim (answer_to_room slots budget text (g.D.Desk.file c.args.desk.now) kernel graph c.in-Ok.answer.status c.in-Ok.answer.text.items (file_items c.in-Ok.answer.table) (answers_at (g.D.Desk.file c.args.desk.now) c.in-Ok.answer.status c.in-Ok.answer.text.items (file_items c.in-Ok.answer.table) asks is told.2) accepted room) [ inl e ↦ inl e | inr e ↦ inr (inl e) ]
-
-pub returns-in-Ok-deliver-clause-optimal : goal.returns-in-Ok-deliver-clause-optimal
-returns-in-Ok-deliver-clause-optimal g c slots budget text kernel graph asks input accepted room tight =
-    let told = c.in-Ok.ensures.answers in
-    let is = told_is _ told.0 text told.1 input in
-    inl (answer_to_tight slots budget text (g.D.Desk.file c.args.desk.now) kernel graph c.in-Ok.answer.status c.in-Ok.answer.text.items (file_items c.in-Ok.answer.table) (answers_at (g.D.Desk.file c.args.desk.now) c.in-Ok.answer.status c.in-Ok.answer.text.items (file_items c.in-Ok.answer.table) asks is told.2) accepted room tight)
-
-pub returns-in-Ok-deliver-clause-opened : goal.returns-in-Ok-deliver-clause-opened
-returns-in-Ok-deliver-clause-opened g c slots budget text kernel graph asks input accepted room loose =
-    let told = c.in-Ok.ensures.answers in
-    let is = told_is _ told.0 text told.1 input in
-    inl (answer_to_loose slots budget text (g.D.Desk.file c.args.desk.now) kernel graph c.in-Ok.answer.status c.in-Ok.answer.text.items (file_items c.in-Ok.answer.table) (answers_at (g.D.Desk.file c.args.desk.now) c.in-Ok.answer.status c.in-Ok.answer.text.items (file_items c.in-Ok.answer.table) asks is told.2) accepted room loose)
-
-pub returns-clause-complete : goal.returns-clause-complete
-returns-clause-complete g c slots budget text kernel graph asks input accepted room calm =
-    let rose = cut_rose g.D.Desk.file g.D.Desk.output g.D.Desk.faults c.args.desk.now _ _ _ _ c.prepare.ensures.write_faults c.in-Err-deliver.ensures.fault in
-    absurd (calm rose.0 rose.1)
-
-pub returns-in-Ok-deliver-clause-done : goal.returns-in-Ok-deliver-clause-done
-returns-in-Ok-deliver-clause-done g c is =
-    let text = c.in-Ok.ensures.answers in
-    let said = rw c.prepare.ensures.same_output at c.in-Ok-deliver.ensures.ok.said in
-    (text.0, _, text.1, said, done_is _ _ _ _ _ _ text.2 is)
-
-pub returns-in-Ok-deliver-clause-values_only : goal.returns-in-Ok-deliver-clause-values_only
-returns-in-Ok-deliver-clause-values_only g c is =
-    let text = c.in-Ok.ensures.answers in
-    let said = rw c.prepare.ensures.same_output at c.in-Ok-deliver.ensures.ok.said in
-    let wrong = values_is _ _ _ _ _ _ text.2 is in
-    (wrong.0, (text.0, text.1, wrong.2, rw wrong.1 at said))
-
-pub returns-in-Ok-deliver-clause-values : goal.returns-in-Ok-deliver-clause-values
-returns-in-Ok-deliver-clause-values g c text bytes kernel graph asks input accepted held none =
-    let told = c.in-Ok.ensures.answers in
-    let is = told_is _ told.0 text told.1 input in
-    let answers = answers_at (g.D.Desk.file c.args.desk.now) c.in-Ok.answer.status c.in-Ok.answer.text.items (file_items c.in-Ok.answer.table) asks is told.2 in
-    inl (answer_to_wrong_values text bytes kernel graph c.in-Ok.answer.status c.in-Ok.answer.text.items (file_items c.in-Ok.answer.table) (rw held at answers) accepted none)
-
-pub returns-in-Ok-deliver-clause-run_complete : goal.returns-in-Ok-deliver-clause-run_complete
-returns-in-Ok-deliver-clause-run_complete g c text bytes kernel graph values asks input accepted held given calm =
-    let told = c.in-Ok.ensures.answers in
-    let is = told_is _ told.0 text told.1 input in
-    let answers = answers_at (g.D.Desk.file c.args.desk.now) c.in-Ok.answer.status c.in-Ok.answer.text.items (file_items c.in-Ok.answer.table) asks is told.2 in
-    inl (answer_to_values text bytes kernel graph values c.in-Ok.answer.status c.in-Ok.answer.text.items (file_items c.in-Ok.answer.table) (rw held at answers) accepted given)
-
-pub returns-in-Ok-deliver-clause-graph_complete : goal.returns-in-Ok-deliver-clause-graph_complete
-returns-in-Ok-deliver-clause-graph_complete g c text kernel graph asks input accepted calm =
-    let told = c.in-Ok.ensures.answers in
-    let is = told_is _ told.0 text told.1 input in
-    inl (answer_to_draw text (g.D.Desk.file c.args.desk.now) kernel graph c.in-Ok.answer.status c.in-Ok.answer.text.items (file_items c.in-Ok.answer.table) (answers_at (g.D.Desk.file c.args.desk.now) c.in-Ok.answer.status c.in-Ok.answer.text.items (file_items c.in-Ok.answer.table) asks is told.2) accepted)
-
-pub returns-clause-run_complete : goal.returns-clause-run_complete
-returns-clause-run_complete g c text bytes kernel graph values asks input accepted held given calm =
-    let rose = cut_rose g.D.Desk.file g.D.Desk.output g.D.Desk.faults c.args.desk.now _ _ _ _ c.prepare.ensures.write_faults c.in-Err-deliver.ensures.fault in
-    absurd (calm rose.0 rose.1)
-
-pub returns-clause-graph_complete : goal.returns-clause-graph_complete
-returns-clause-graph_complete g c text kernel graph asks input accepted calm =
-    let rose = cut_rose g.D.Desk.file g.D.Desk.output g.D.Desk.faults c.args.desk.now _ _ _ _ c.prepare.ensures.write_faults c.in-Err-deliver.ensures.fault in
-    absurd (calm rose.0 rose.1)
-
-pub returns-in-Ok-deliver-clause-file_kept : goal.returns-in-Ok-deliver-clause-file_kept
-returns-in-Ok-deliver-clause-file_kept g c not_optimal not_open not_fault =
-    let text = c.in-Ok.ensures.answers in
-    let none = no_table _ _ _ _ _ _ text.2 not_optimal not_open in
-    (rw none at c.in-Ok-deliver.ensures.ok.written) ∙ c.prepare.ensures.same_file
+    let answer = c.in-Ok.answer in
+    let command = asked_by c.args.words.now in
+    let held = g.D.Desk.file c.args.desk.now in
+    let same = told_is _ told.0 text told.1 input in
+    let made = subst (λ t. Answers command t held answer.status answer.text.items (file_items answer.table)) same told.2 in
+    inl (sym (one_answer command text held status printed table h answer.status answer.text.items (file_items answer.table) file made))
 
 pub returns-in-Ok-deliver-clause-missing : goal.returns-in-Ok-deliver-clause-missing
-returns-in-Ok-deliver-clause-missing g c text kernel graph asks input accepted held =
+returns-in-Ok-deliver-clause-missing g c asked text asks reads input admitted held =
     let told = c.in-Ok.ensures.answers in
-    let is = told_is _ told.0 text told.1 input in
-    let answers = answers_at (g.D.Desk.file c.args.desk.now) c.in-Ok.answer.status c.in-Ok.answer.text.items (file_items c.in-Ok.answer.table) asks is told.2 in
-    not_without_file text kernel graph c.in-Ok.answer.status c.in-Ok.answer.text.items (file_items c.in-Ok.answer.table) (rw held at answers) accepted
+    let answer = c.in-Ok.answer in
+    let same = told_is _ told.0 text told.1 input in
+    let here = subst (λ t. Answers (asked_by c.args.words.now) t (g.D.Desk.file c.args.desk.now) answer.status answer.text.items (file_items answer.table)) same told.2 in
+    no_answer_without_file asked text answer.status answer.text.items (file_items answer.table) reads admitted (kind_of asked asks (rw held at here))
+
+pub returns-in-Ok-deliver-clause-silent : goal.returns-in-Ok-deliver-clause-silent
+returns-in-Ok-deliver-clause-silent g c ended = answer_is_no_end (no_fault _ _ _ _ _ _ c.in-Ok.ensures.answers.2) ended
+
+pub returns-in-Ok-deliver-clause-calm : goal.returns-in-Ok-deliver-clause-calm
+returns-in-Ok-deliver-clause-calm g c calm =
+    let none = no_fault _ _ _ _ _ _ c.in-Ok.ensures.answers.2 in
+    (none.0, none.1.0)
+
+pub returns-in-Ok-deliver-clause-usage_only : goal.returns-in-Ok-deliver-clause-usage_only
+returns-in-Ok-deliver-clause-usage_only g c is = (usage_only _ _ _ _ _ _ c.in-Ok.ensures.answers.2 is).0
+
+pub returns-in-Ok-deliver-clause-usage : goal.returns-in-Ok-deliver-clause-usage
+returns-in-Ok-deliver-clause-usage g c none = inl (to_usage none c.in-Ok.ensures.answers.2).ends
+
+pub returns-in-Ok-deliver-clause-file_kept : goal.returns-in-Ok-deliver-clause-file_kept
+returns-in-Ok-deliver-clause-file_kept g c idle =
+    let none = tables_are_of_writers _ _ _ _ _ _ c.in-Ok.ensures.answers.2 (inl idle) in
+    no_table_keeps _ _ _ none c.in-Ok-deliver.ensures.ok.written ∙ c.prepare.ensures.same_file
+
+pub returns-in-Ok-deliver-clause-refusals_keep : goal.returns-in-Ok-deliver-clause-refusals_keep
+returns-in-Ok-deliver-clause-refusals_keep g c early other =
+    let none = tables_are_of_writers _ _ _ _ _ _ c.in-Ok.ensures.answers.2 (inr early) in
+    no_table_keeps _ _ _ none c.in-Ok-deliver.ensures.ok.written ∙ c.prepare.ensures.same_file
+
+pub returns-in-Ok-deliver-clause-refused_keep : goal.returns-in-Ok-deliver-clause-refused_keep
+returns-in-Ok-deliver-clause-refused_keep g c asked text asks input refused =
+    let told = c.in-Ok.ensures.answers in
+    let answer = c.in-Ok.answer in
+    let same = told_is _ told.0 text told.1 input in
+    let here = subst (λ t. Answers (asked_by c.args.words.now) t (g.D.Desk.file c.args.desk.now) answer.status answer.text.items (file_items answer.table)) same told.2 in
+    let none = refused_without_table asked text (g.D.Desk.file c.args.desk.now) answer.status answer.text.items (file_items answer.table) refused (kind_of asked asks here) in
+    no_table_keeps _ _ _ none c.in-Ok-deliver.ensures.ok.written ∙ c.prepare.ensures.same_file
+
+-- ---- a write failed
+
+pub returns-clause-write_fault : goal.returns-clause-write_fault
+returns-clause-write_fault g c fault =
+    let text = c.in-Ok.ensures.answers in
+    let answer = c.in-Ok.answer in
+    let cut = cut_from g.D.Desk.file g.D.Desk.output g.D.Desk.faults c.args.desk.now _ _ answer.text.items (file_items answer.table)
+    c.prepare.ensures.same_file c.prepare.ensures.same_output c.prepare.ensures.write_faults c.in-Err-deliver.ensures.fault in
+    (text.0, answer.text.items, file_items answer.table, answer.status, text.1, text.2, cut)
 
 pub returns-clause-missing : goal.returns-clause-missing
-returns-clause-missing g c text kernel graph asks input accepted held =
+returns-clause-missing g c asked text asks reads input admitted held =
     let told = c.in-Ok.ensures.answers in
-    let is = told_is _ told.0 text told.1 input in
-    let answers = answers_at (g.D.Desk.file c.args.desk.now) c.in-Ok.answer.status c.in-Ok.answer.text.items (file_items c.in-Ok.answer.table) asks is told.2 in
-    not_without_file text kernel graph c.in-Ok.answer.status c.in-Ok.answer.text.items (file_items c.in-Ok.answer.table) (rw held at answers) accepted
+    let answer = c.in-Ok.answer in
+    let same = told_is _ told.0 text told.1 input in
+    let here = subst (λ t. Answers (asked_by c.args.words.now) t (g.D.Desk.file c.args.desk.now) answer.status answer.text.items (file_items answer.table)) same told.2 in
+    no_answer_without_file asked text answer.status answer.text.items (file_items answer.table) reads admitted (kind_of asked asks (rw held at here))
 
 pub returns-clause-calm : goal.returns-clause-calm
 returns-clause-calm g c calm =
     let rose = cut_rose g.D.Desk.file g.D.Desk.output g.D.Desk.faults c.args.desk.now _ _ _ _ c.prepare.ensures.write_faults c.in-Err-deliver.ensures.fault in
     absurd (calm rose.0 rose.1)
+
+pub returns-clause-read_whole : goal.returns-clause-read_whole
+returns-clause-read_whole g c reads read = write_fault_is_not_of_read read
+
+pub returns-clause-file_kept : goal.returns-clause-file_kept
+returns-clause-file_kept g c idle =
+    let none = tables_are_of_writers _ _ _ _ _ _ c.in-Ok.ensures.answers.2 (inl idle) in
+    cut_keeps g.D.Desk.file g.D.Desk.output g.D.Desk.faults _ _ _ _ none c.in-Err-deliver.ensures.fault ∙ c.prepare.ensures.same_file
+
+pub returns-clause-refused_keep : goal.returns-clause-refused_keep
+returns-clause-refused_keep g c asked text asks input refused =
+    let told = c.in-Ok.ensures.answers in
+    let answer = c.in-Ok.answer in
+    let same = told_is _ told.0 text told.1 input in
+    let here = subst (λ t. Answers (asked_by c.args.words.now) t (g.D.Desk.file c.args.desk.now) answer.status answer.text.items (file_items answer.table)) same told.2 in
+    let none = refused_without_table asked text (g.D.Desk.file c.args.desk.now) answer.status answer.text.items (file_items answer.table) refused (kind_of asked asks here) in
+    cut_keeps g.D.Desk.file g.D.Desk.output g.D.Desk.faults _ _ _ _ none c.in-Err-deliver.ensures.fault ∙ c.prepare.ensures.same_file
+
+-- ---- there is no answer
+
+pub returns-in-Err-clause-read_fault : goal.returns-in-Err-clause-read_fault
+returns-in-Err-clause-read_fault g c fault = cause_of_end _ _ c.in-Err.ensures.refusal fault
+
+pub returns-in-Err-clause-headline : goal.returns-in-Err-clause-headline
+returns-in-Err-clause-headline g c asked asks verdict = end_is_no_verdict _ _ c.in-Err.ensures.refusal verdict
+
+pub returns-in-Err-clause-determined : goal.returns-in-Err-clause-determined
+returns-in-Err-clause-determined g c text status printed table input file h = end_is_yielded _ status _ c.in-Err.ensures.refusal
+
+pub returns-in-Err-clause-missing : goal.returns-in-Err-clause-missing
+returns-in-Err-clause-missing g c asked text asks reads input admitted held = end_is_fault_or_none _ _ c.in-Err.ensures.refusal
+
+pub returns-in-Err-clause-usage : goal.returns-in-Err-clause-usage
+returns-in-Err-clause-usage g c none = inr (inr (end_without_cause _ _ (no_cause none) c.in-Err.ensures.refusal))
+
+pub returns-in-Err-clause-read_whole : goal.returns-in-Err-clause-read_whole
+returns-in-Err-clause-read_whole g c reads read = end_is_not_of_read _ _ c.in-Err.ensures.refusal read
+
+pub returns-in-Err-clause-calm : goal.returns-in-Err-clause-calm
+returns-in-Err-clause-calm g c calm =
+    no_memory_is_no_fault (end_without_cause _ _ (λ cause. let rose = cause_rose cause in calm rose.0 rose.1) c.in-Err.ensures.refusal)

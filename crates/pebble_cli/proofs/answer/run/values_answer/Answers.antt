@@ -43,8 +43,8 @@ returns-in-Err-WrongCount c =
     wrong_values c.values_fault-in-Err-WrongCount.result kernel c.args.accepted.now.graph c.args.bytes.now answer.status answer.text answer.none
     (wrong_count kernel c.args.bytes.now c.deref.result.now c.in-Err-WrongCount.field-0-0 c.in-Err-WrongCount.field-0-1 only wrong)
 
-pub returns-in-Err-Shape-run : goal.returns-in-Err-Shape-run
-returns-in-Err-Shape-run c =
+pub unreachable-requires : goal.unreachable-requires
+unreachable-requires c =
     let kernel = c.args.accepted.now.kernel in
     let fault = subst (ends.EndMeans kernel c.deref.result.now) c.in-Err-Shape-run.field-0-is c.in-Err-Shape-run.ensures.end in
     let both = sym (faultless_from_graph kernel c.args.accepted.now.graph c.requires.accepted.1.evaluated) ∙ fault in

@@ -1,0 +1,282 @@
+-- The laws of the answers of all commands: one answer, some answer, and where each refusal and a command's own answer stand.
+use Rattle.std.proofs.Common.{◌≡◌, ◌≢◌, ℕ, ◌+◌, ◌<◌, ◌≤◌, true, false, List, Option, Some, None, inl, inr, refl, sym, ap, ◌∙◌, subst, arith}
+use Rattle.std.proofs.lemmas.Bool.{cases_lt}
+use Rattle.comp_graph.specs.Dags.{degree}
+use Rattle.comp_graph.specs.Graphs.{GraphParts, dag_of}
+use Rattle.kernel_ast.specs.KernelParts.{KernelParts}
+use Rattle.pebble_cli.specs.declared.commands.Command.{Command}
+use Rattle.pebble_cli.specs.declared.commands.Command.TheVariants.{Plan, Run, Graph}
+use Rattle.pebble_cli.specs.declared.commands.Subject.{Subject}
+use Rattle.pebble_cli.specs.declared.commands.Subject.TheVariants.{InputKernel}
+use Rattle.pebble_cli.specs.declared.status.Status.{Status}
+use Rattle.pebble_cli.specs.declared.status.Status.TheVariants.{Usage, Kernel, TooSmall, ReadFault, WriteFault, NoMemory}
+use Rattle.pebble_cli.specs.Accepted.{IsAccepted, IsKernelFault}
+use Rattle.pebble_cli.specs.Answers.{Answers, usage, faulty_kernel, too_few_slots, last_answer, LastAnswers, IsAdmitted, kernel_with_room, HasRoom}
+use Rattle.pebble_cli.specs.AnswerLaws.{OneAnswer, SomeAnswer, NoFaultIsAnAnswer, TablesAreOfWriters, UsageOnly, UsageAlways, KernelOnly, KernelAlways, TooSmallOnly, TooSmallAlways, LastOnly, LastAlways}
+use Rattle.pebble_cli.specs.Commands.{subject, slots_of, kernel_text, reads_file, writes_file}
+use Rattle.pebble_cli.specs.Faults.{IsFileTold}
+use Rattle.pebble_cli.specs.Refusals.{IsUsage, IsFaulty, IsTooSmall, usage_text, kernel_fault_text, too_small_text}
+use Rattle.pebble_cli.specs.Status.{is_last}
+use Rattle.pebble_cli.specs.Words.{command, IsInLimits}
+use Rattle.pebble_cli.proofs.Accepting.{accepted_once, accepted_or_fault, no_fault_of_accepted}
+use Rattle.pebble_cli.proofs.GraphKept.{graph_kept}
+use Rattle.pebble_cli.proofs.LastAnswers.{HasLast, AreKept}
+use Rattle.pebble_cli.proofs.PlanKept.{plan_kept}
+use Rattle.pebble_cli.proofs.FirstPlans.{is_too_small}
+use Rattle.pebble_cli.proofs.RunKept.{run_kept}
+use Rattle.pebble_cli.proofs.WordLimits.{words_are_in_limits}
+
+-- what is shown of the last answers of each command
+pub last_kept : (asked : Command) → AreKept asked
+last_kept (Plan asked) = plan_kept asked
+last_kept Run = run_kept
+last_kept Graph = graph_kept
+
+-- ---- the answers of one command
+
+-- the kinds of answers of a command
+pub data Kinds (asked : Command) (input : List ℕ) (file : Option (Option (List ℕ))) (status : Status) (printed : List ℕ) (table : Option (List ℕ)) : Type 0 where
+  faulty : (text : List ℕ) → kernel_text (subject asked) input ≡ Some text → IsFaulty text status printed table → Kinds asked input file status printed table
+  small : (text : List ℕ) (slots : ℕ) → kernel_text (subject asked) input ≡ Some text → slots_of asked ≡ Some slots → IsTooSmall slots text status printed table
+      → Kinds asked input file status printed table
+  last : LastAnswers asked input file status printed table → Kinds asked input file status printed table
+
+-- each answer of a command is of one of these kinds
+pub kind_of : {command : Option Command} (asked : Command) {input : List ℕ} {file : Option (Option (List ℕ))} {status : Status} {printed : List ℕ} {table : Option (List ℕ)}
+    → command ≡ Some asked → Answers command input file status printed table → Kinds asked input file status printed table
+kind_of {command} asked {input} {file} {status} {printed} {table} is (usage none k) = absurd (cc)
+kind_of {command} asked {input} {file} {status} {printed} {table} is (faulty_kernel other text other_is e k) =
+    let same : other ≡ asked = cc in
+    subst (λ a. Kinds a input file status printed table) same (faulty text e k)
+kind_of {command} asked {input} {file} {status} {printed} {table} is (too_few_slots other text slots other_is e has k) =
+    let same : other ≡ asked = cc in
+    subst (λ a. Kinds a input file status printed table) same (small text slots e has k)
+kind_of {command} asked {input} {file} {status} {printed} {table} is (last_answer other other_is k) =
+    let same : other ≡ asked = cc in
+    subst (λ a. Kinds a input file status printed table) same (last k)
+
+-- ---- no two kinds meet
+
+-- the degree of the one graph of a text
+one_degree : (text : List ℕ) (k j : KernelParts) (g h : GraphParts) → IsAccepted text k g → IsAccepted text j h → degree (dag_of g) ≡ degree (dag_of h)
+one_degree text k j g h a b = ap (λ x. degree (dag_of x)) (accepted_once text k j g h a b).1
+
+-- the texts of one subject are one
+one_text : {X : Option (List ℕ)} {a b : List ℕ} → X ≡ Some a → X ≡ Some b → b ≡ a
+one_text first second = cc
+
+-- a kernel with a fault is not admitted
+fault_refuses : (asked : Command) (input text : List ℕ) (code at : ℕ) → kernel_text (subject asked) input ≡ Some text → IsKernelFault text code at → IsAdmitted asked input → ⊥
+fault_refuses asked input text code at is fault (kernel_with_room other other_is h) =
+    no_fault_of_accepted text h.kernel h.graph code at (subst (λ t. IsAccepted t h.kernel h.graph) (one_text is other_is) h.accepted) fault
+
+-- nor is one with too few slots
+few_refuse : (asked : Command) (input text : List ℕ) (slots : ℕ) (kernel : KernelParts) (graph : GraphParts) → kernel_text (subject asked) input ≡ Some text
+    → slots_of asked ≡ Some slots → IsAccepted text kernel graph → slots ≤ degree (dag_of graph) → IsAdmitted asked input → ⊥
+few_refuse asked input text slots kernel graph is has accepted few (kernel_with_room other other_is h) =
+    let room = h.room slots has in
+    let same = one_degree text kernel h.kernel graph h.graph accepted (subst (λ t. IsAccepted t h.kernel h.graph) (one_text is other_is) h.accepted) in
+    omega (arith, room, few, same)
+
+-- a kernel with too few slots has no fault
+few_has_no_fault : (asked : Command) (input text other : List ℕ) (code at : ℕ) (kernel : KernelParts) (graph : GraphParts) → kernel_text (subject asked) input ≡ Some text
+    → kernel_text (subject asked) input ≡ Some other → IsKernelFault text code at → IsAccepted other kernel graph → ⊥
+few_has_no_fault asked input text other code at kernel graph is other_is fault accepted =
+    no_fault_of_accepted text kernel graph code at (subst (λ t. IsAccepted t kernel graph) (one_text is other_is) accepted) fault
+
+-- ---- what is answered where a cause is met
+
+to_fault : (asked : Command) (input text : List ℕ) (file : Option (Option (List ℕ))) (code at : ℕ) (status : Status) (printed : List ℕ) (table : Option (List ℕ))
+    → kernel_text (subject asked) input ≡ Some text → IsKernelFault text code at → Kinds asked input file status printed table → status ≡ Kernel
+to_fault asked input text file code at status printed table is fault (faulty other other_is k) = k.ends
+to_fault asked input text file code at status printed table is fault (small other slots other_is has k) =
+    absurd (few_has_no_fault asked input text other code at k.kernel k.graph is other_is fault k.accepted)
+to_fault asked input text file code at status printed table is fault (last k) =
+    absurd (fault_refuses asked input text code at is fault ((last_kept asked).each input file status printed table k).admitted)
+
+to_small : (asked : Command) (input text : List ℕ) (file : Option (Option (List ℕ))) (slots : ℕ) (kernel : KernelParts) (graph : GraphParts) (status : Status) (printed : List ℕ) (table : Option (List ℕ))
+    → kernel_text (subject asked) input ≡ Some text → slots_of asked ≡ Some slots → IsAccepted text kernel graph → slots ≤ degree (dag_of graph)
+    → Kinds asked input file status printed table → status ≡ TooSmall
+to_small asked input text file slots kernel graph status printed table is has accepted few (faulty other other_is k) =
+    absurd (few_has_no_fault asked input other text k.code k.at kernel graph other_is is k.fault accepted)
+to_small asked input text file slots kernel graph status printed table is has accepted few (small other others other_is others_has k) = k.ends
+to_small asked input text file slots kernel graph status printed table is has accepted few (last k) =
+    absurd (few_refuse asked input text slots kernel graph is has accepted few ((last_kept asked).each input file status printed table k).admitted)
+
+pub to_last : (asked : Command) (input : List ℕ) (file : Option (Option (List ℕ))) (status : Status) (printed : List ℕ) (table : Option (List ℕ))
+    → IsAdmitted asked input → Kinds asked input file status printed table → LastAnswers asked input file status printed table
+to_last asked input file status printed table admitted (faulty text is k) = absurd (fault_refuses asked input text k.code k.at is k.fault admitted)
+to_last asked input file status printed table admitted (small text slots is has k) = absurd (few_refuse asked input text slots k.kernel k.graph is has k.accepted k.small admitted)
+to_last asked input file status printed table admitted (last k) = k
+
+-- ---- one answer
+
+one_kind : (asked : Command) (input : List ℕ) (file : Option (Option (List ℕ))) (s t : Status) (p q : List ℕ) (a b : Option (List ℕ)) → (is_last s ≡ true → IsFileTold (Some asked) file)
+    → Kinds asked input file s p a → Kinds asked input file t q b → s ≡ t
+one_kind asked input file s t p q a b told (faulty text is k) other = k.ends ∙ sym (to_fault asked input text file k.code k.at t q b is k.fault other)
+one_kind asked input file s t p q a b told (small text slots is has k) other =
+    k.ends ∙ sym (to_small asked input text file slots k.kernel k.graph t q b is has k.accepted k.small other)
+one_kind asked input file s t p q a b told (last k) other =
+    let kept = (last_kept asked).each input file s p a k in
+    (last_kept asked).once input file s t p q a b (told kept.last) k (to_last asked input file t q b kept.admitted other)
+
+-- an answer to no command is Usage
+pub to_usage : {command : Option Command} {input : List ℕ} {file : Option (Option (List ℕ))} {status : Status} {printed : List ℕ} {table : Option (List ℕ)}
+    → command ≡ None → Answers command input file status printed table → IsUsage status printed table
+to_usage is (usage none k) = k
+to_usage is (faulty_kernel other text other_is e k) = absurd (cc)
+to_usage is (too_few_slots other text slots other_is e has k) = absurd (cc)
+to_usage is (last_answer other other_is k) = absurd (cc)
+
+by_command : (command found : Option Command) (input : List ℕ) (file : Option (Option (List ℕ))) (s t : Status) (p q : List ℕ) (a b : Option (List ℕ)) → command ≡ found
+    → (is_last s ≡ true → IsFileTold found file) → Answers command input file s p a → Answers command input file t q b → s ≡ t
+by_command command None input file s t p q a b is told h k = (to_usage is h).ends ∙ sym (to_usage is k).ends
+by_command command (Some asked) input file s t p q a b is told h k = one_kind asked input file s t p q a b told (kind_of asked is h) (kind_of asked is k)
+
+pub one_answer : OneAnswer
+one_answer command input file status printed table h other text bytes told k = by_command command command input file status other printed text table bytes refl told h k
+
+-- ---- what a status says
+
+-- a last status is none of the others
+last_is_not : {X : Type 0} (status other : Status) → status ≡ other → is_last status ≡ true → is_last other ≡ false → X
+last_is_not status other same a b = absurd (let both : true ≡ false = sym a ∙ ap is_last same ∙ b in cc)
+
+-- the status of a command's own answer is a last one
+own_last : (asked : Command) (input : List ℕ) (file : Option (Option (List ℕ))) (status : Status) (printed : List ℕ) (table : Option (List ℕ))
+    → LastAnswers asked input file status printed table → is_last status ≡ true
+own_last asked input file status printed table k = ((last_kept asked).each input file status printed table k).last
+
+-- two statuses of one answer
+both_are : {status a b : Status} → status ≡ a → status ≡ b → a ≡ b
+both_are first second = sym first ∙ second
+
+pub usage_only : UsageOnly
+usage_only command input file status printed table (usage none k) at = (none, k)
+usage_only command input file status printed table (faulty_kernel asked text is e k) at = let both = both_are k.ends at in absurd (cc)
+usage_only command input file status printed table (too_few_slots asked text slots is e has k) at = let both = both_are k.ends at in absurd (cc)
+usage_only command input file status printed table (last_answer asked is k) at = last_is_not status Usage at (own_last asked input file status printed table k) refl
+
+pub usage_always : UsageAlways
+usage_always input file = usage refl (record { ends = refl; line = refl; none = refl })
+
+pub kernel_only : KernelOnly
+kernel_only command input file status printed table (usage none k) at = let both = both_are k.ends at in absurd (cc)
+kernel_only command input file status printed table (faulty_kernel asked text is e k) at = (asked, text, is, e, k)
+kernel_only command input file status printed table (too_few_slots asked text slots is e has k) at = let both = both_are k.ends at in absurd (cc)
+kernel_only command input file status printed table (last_answer asked is k) at = last_is_not status Kernel at (own_last asked input file status printed table k) refl
+
+pub kernel_always : KernelAlways
+kernel_always asked input text file code at is fault =
+    faulty_kernel asked text refl is (record { code = code; at = at; fault = fault; ends = refl; line = refl; none = refl })
+
+pub too_small_only : TooSmallOnly
+too_small_only command input file status printed table (usage none k) at = let both = both_are k.ends at in absurd (cc)
+too_small_only command input file status printed table (faulty_kernel asked text is e k) at = let both = both_are k.ends at in absurd (cc)
+too_small_only command input file status printed table (too_few_slots asked text slots is e has k) at = (asked, text, slots, is, e, has, k)
+too_small_only command input file status printed table (last_answer asked is k) at = last_is_not status TooSmall at (own_last asked input file status printed table k) refl
+
+-- a command in its limits has at least one slot, if it has slots
+some_slots : (asked : Command) (slots : ℕ) → IsInLimits asked → slots_of asked ≡ Some slots → 0 < slots
+some_slots (Plan asked) slots limits has = let same : asked.slots ≡ slots = cc in omega (arith, limits.0, same)
+some_slots Run slots limits has = absurd (cc)
+some_slots Graph slots limits has = absurd (cc)
+
+pub too_small_always : TooSmallAlways
+too_small_always asked input text file slots kernel graph limits is has accepted few =
+    too_few_slots asked text slots refl is has
+    (is_too_small slots (degree (dag_of graph) + 1) text kernel graph TooSmall (too_small_text (degree (dag_of graph) + 1)) None (some_slots asked slots limits has) accepted few refl refl refl refl)
+
+pub last_only : LastOnly
+last_only command input file status printed table (usage none k) at = last_is_not status Usage k.ends at refl
+last_only command input file status printed table (faulty_kernel asked text is e k) at = last_is_not status Kernel k.ends at refl
+last_only command input file status printed table (too_few_slots asked text slots is e has k) at = last_is_not status TooSmall k.ends at refl
+last_only command input file status printed table (last_answer asked is k) at =
+    (asked, is, ((last_kept asked).each input file status printed table k).admitted, k)
+
+pub last_always : LastAlways
+last_always command input file status printed table h asked is admitted =
+    own_last asked input file status printed table (to_last asked input file status printed table admitted (kind_of asked is h))
+
+-- a status with another that is no fault
+no_fault_at : (status other : Status) → status ≡ other → other ≢ ReadFault → other ≢ WriteFault → other ≢ NoMemory
+    → (status ≢ ReadFault) × ((status ≢ WriteFault) × (status ≢ NoMemory))
+no_fault_at status other s a b c = (λ e. a (sym s ∙ e), (λ e. b (sym s ∙ e), λ e. c (sym s ∙ e)))
+
+pub no_fault : NoFaultIsAnAnswer
+no_fault command input file status printed table (usage none k) = no_fault_at status Usage k.ends (λ e. cc) (λ e. cc) (λ e. cc)
+no_fault command input file status printed table (faulty_kernel asked text is e k) = no_fault_at status Kernel k.ends (λ e. cc) (λ e. cc) (λ e. cc)
+no_fault command input file status printed table (too_few_slots asked text slots is e has k) = no_fault_at status TooSmall k.ends (λ e. cc) (λ e. cc) (λ e. cc)
+no_fault command input file status printed table (last_answer asked is k) =
+    let last = own_last asked input file status printed table k in
+    (λ e. last_is_not status ReadFault e last refl, (λ e. last_is_not status WriteFault e last refl, λ e. last_is_not status NoMemory e last refl))
+
+-- ---- tables
+
+pub tables_are_of_writers : TablesAreOfWriters
+tables_are_of_writers command input file status printed table (usage none k) at = k.none
+tables_are_of_writers command input file status printed table (faulty_kernel asked text is e k) at = k.none
+tables_are_of_writers command input file status printed table (too_few_slots asked text slots is e has k) at = k.none
+tables_are_of_writers command input file status printed table (last_answer asked is k) (inl idle) =
+    ((last_kept asked).each input file status printed table k).untold (sym (ap writes_file is) ∙ idle)
+tables_are_of_writers command input file status printed table (last_answer asked is k) (inr early) =
+    absurd (let last = own_last asked input file status printed table k in cc)
+
+-- a table goes only where nothing refuses the input
+pub refused_without_table : (asked : Command) (input : List ℕ) (file : Option (Option (List ℕ))) (status : Status) (printed : List ℕ) (table : Option (List ℕ))
+    → (IsAdmitted asked input → ⊥) → Kinds asked input file status printed table → table ≡ None
+refused_without_table asked input file status printed table not (faulty text is k) = k.none
+refused_without_table asked input file status printed table not (small text slots is has k) = k.none
+refused_without_table asked input file status printed table not (last k) = absurd (not ((last_kept asked).each input file status printed table k).admitted)
+
+-- where a file that is to be read is missing, an admitted input has no answer
+pub no_answer_without_file : {X : Type 0} (asked : Command) (input : List ℕ) (status : Status) (printed : List ℕ) (table : Option (List ℕ))
+    → reads_file (Some asked) ≡ true → IsAdmitted asked input → Kinds asked input (Some None) status printed table → X
+no_answer_without_file asked input status printed table reads admitted kind =
+    let answer = to_last asked input (Some None) status printed table admitted kind in
+    absurd (((last_kept asked).each input (Some None) status printed table answer).held reads refl)
+
+-- ---- some answer
+
+-- what a command gets of its subject
+record HasText (subject : Subject) (input : List ℕ) : Type 0 where
+  text : List ℕ
+  is : kernel_text subject input ≡ Some text
+
+text_of : (subject : Subject) (input : List ℕ) → HasText subject input
+text_of InputKernel input = record { text = input; is = refl }
+
+-- an answer
+abbrev HasAnswer : Option Command → List ℕ → Option (Option (List ℕ)) → Type 0
+HasAnswer command input file = (status : Status) × (printed : List ℕ) × (table : Option (List ℕ)) × Answers command input file status printed table
+
+from_last : (asked : Command) (input : List ℕ) (file : Option (Option (List ℕ))) → HasLast asked input file → HasAnswer (Some asked) input file
+from_last asked input file h = (h.status, h.printed, h.table, last_answer asked refl h.answer)
+
+by_slots : (asked : Command) (input text : List ℕ) (file : Option (Option (List ℕ))) (kernel : KernelParts) (graph : GraphParts) (slots : Option ℕ) → IsInLimits asked
+    → (reads_file (Some asked) ≡ true → file ≡ Some None → ⊥) → kernel_text (subject asked) input ≡ Some text → IsAccepted text kernel graph → slots_of asked ≡ slots
+    → HasAnswer (Some asked) input file
+by_slots asked input text file kernel graph None limits there is accepted has =
+    let room : HasRoom (slots_of asked) text = record { kernel = kernel; graph = graph; accepted = accepted; room = λ count e. absurd (cc) } in
+    from_last asked input file ((last_kept asked).some input file limits there (kernel_with_room text is room))
+by_slots asked input text file kernel graph (Some slots) limits there is accepted has = elim (cases_lt (degree (dag_of graph)) slots) [
+  | inl room ↦
+      let admitted : HasRoom (slots_of asked) text = record { kernel = kernel; graph = graph; accepted = accepted; room = λ count e. (let same : slots ≡ count = cc in omega (arith, room, same)) } in
+      from_last asked input file ((last_kept asked).some input file limits there (kernel_with_room text is admitted))
+  | inr few ↦ (TooSmall, too_small_text (degree (dag_of graph) + 1), None, too_small_always asked input text file slots kernel graph limits is has accepted (omega (arith, few)))
+]
+
+by_subject : (asked : Command) (input : List ℕ) (file : Option (Option (List ℕ))) → IsInLimits asked → (reads_file (Some asked) ≡ true → file ≡ Some None → ⊥)
+    → HasText (subject asked) input → HasAnswer (Some asked) input file
+by_subject asked input file limits there h = elim (accepted_or_fault h.text) [
+  | inl a ↦ by_slots asked input h.text file a.0 a.1 (slots_of asked) limits there h.is a.2 refl
+  | inr f ↦ (Kernel, kernel_fault_text f.0 f.1, None, kernel_always asked input h.text file f.0 f.1 h.is f.2)
+]
+
+by_words : (found : Option Command) (input : List ℕ) (file : Option (Option (List ℕ))) → ((asked : Command) → found ≡ Some asked → IsInLimits asked)
+    → (reads_file found ≡ true → file ≡ Some None → ⊥) → HasAnswer found input file
+by_words None input file limits there = (Usage, usage_text, None, usage_always input file)
+by_words (Some asked) input file limits there = by_subject asked input file (limits asked refl) there (text_of (subject asked) input)
+
+pub some_answer : SomeAnswer
+some_answer words input file there = by_words (command words) input file (words_are_in_limits words) there

@@ -1,0 +1,43 @@
+-- The last answers of `graph`: one to each accepted kernel.
+use Rattle.std.proofs.Common.{◌≡◌, ℕ, List, Option, None, refl, sym, ap, ◌∙◌, subst}
+use Rattle.comp_graph.specs.Graphs.{GraphParts}
+use Rattle.kernel_ast.specs.KernelParts.{KernelParts}
+use Rattle.plan_report.specs.GraphText.{graph_text}
+use Rattle.pebble_cli.specs.declared.commands.Command.TheVariants.{Graph}
+use Rattle.pebble_cli.specs.declared.status.Status.{Status}
+use Rattle.pebble_cli.specs.declared.status.Status.TheVariants.{Done}
+use Rattle.pebble_cli.specs.Accepted.{IsAccepted}
+use Rattle.pebble_cli.specs.Answers.{IsAdmitted, kernel_with_room}
+use Rattle.pebble_cli.specs.GraphAnswers.{IsDrawn}
+use Rattle.pebble_cli.specs.Status.{is_last}
+use Rattle.pebble_cli.proofs.LastAnswers.{IsKept, HasLast, AreKept}
+
+-- an accepted kernel is admitted
+pub admits : (input : List ℕ) (kernel : KernelParts) (graph : GraphParts) → IsAccepted input kernel graph → IsAdmitted Graph input
+admits input kernel graph accepted = kernel_with_room input refl (record { kernel = kernel; graph = graph; accepted = accepted; room = λ count e. absurd (cc) })
+
+kept : (input : List ℕ) (file : Option (Option (List ℕ))) (status : Status) (printed : List ℕ) (table : Option (List ℕ))
+    → IsDrawn input status printed table → IsKept Graph input file status printed table
+kept input file status printed table h = record {
+  admitted = admits input h.kernel h.graph h.accepted;
+  last = ap is_last h.ends;
+  untold = λ e. h.none;
+  held = λ e. absurd (cc);
+}
+
+some : (input : List ℕ) (file : Option (Option (List ℕ))) → IsAdmitted Graph input → HasLast Graph input file
+some input file (kernel_with_room text e h) =
+    let same : text ≡ input = cc in
+    record {
+      status = Done;
+      printed = graph_text h.graph;
+      table = None;
+      answer = record { kernel = h.kernel; graph = h.graph; accepted = subst (λ t. IsAccepted t h.kernel h.graph) same h.accepted; ends = refl; lines = refl; none = refl };
+    }
+
+pub graph_kept : AreKept Graph
+graph_kept = record {
+  each = kept;
+  once = λ input file s t p q a b told h k. h.ends ∙ sym k.ends;
+  some = λ input file limits held admitted. some input file admitted;
+}

@@ -1,0 +1,60 @@
+-- How the answer of a command to its kernel becomes its answer to the input, as far as the desk tells it.
+use Rattle.std.proofs.Common.{◌≡◌, ℕ, true, List, Option, Some, None, Result, Err, refl, sym, ap, subst}
+use Rattle.desk_io.specs.declared.desk.Kind.{Kind}
+use Rattle.desk_io.specs.declared.desk.Kind.TheVariants.{TakeFile}
+use Rattle.desk_io.specs.Counts.{Rose}
+use Rattle.desk_io.specs.Known.{Tells}
+use Rattle.pebble_cli.specs.declared.answer.Answer.{Answer}
+use Rattle.pebble_cli.specs.declared.answer.EarlyEnd.{EarlyEnd}
+use Rattle.pebble_cli.specs.declared.answer.EarlyEnd.TheVariants.{Refused, ReadFault, NoMemory}
+use Rattle.pebble_cli.specs.declared.commands.Command.{Command}
+use Rattle.pebble_cli.specs.declared.commands.Subject.{Subject}
+use Rattle.pebble_cli.specs.declared.commands.Subject.TheVariants.{InputKernel}
+use Rattle.pebble_cli.specs.Answers.{Answers, usage, faulty_kernel, IsAdmitted}
+use Rattle.pebble_cli.specs.Commands.{subject, kernel_text, reads_file}
+use Rattle.pebble_cli.specs.Faults.{ReadCause, of_file}
+use Rattle.pebble_cli.specs.MadeAnswers.{Meets, AnswersInput, IfRefused, IfAnswer}
+use Rattle.pebble_cli.specs.Refusals.{IsUsage, IsFaulty}
+use Rattle.pebble_cli.proofs.KernelAnswers.{more_of}
+use Rattle.pebble_cli.proofs.ToldBytes.{told_text}
+
+-- each subject is the kernel in the input
+pub one_subject : (s : Subject) → s ≡ InputKernel
+one_subject InputKernel = refl
+
+-- the text of a kernel that the input is
+pub input_is_text : (command : Command) (input : List ℕ) → subject command ≡ InputKernel → kernel_text (subject command) input ≡ Some input
+input_is_text command input is = ap (λ s. kernel_text s input) is
+
+-- an input that is too long
+pub long_answers : {A : Type 0} (r : Result Answer EarlyEnd) (text : Result A EarlyEnd) (end : EarlyEnd) (command : Command) (known : Option (List ℕ)) (file : Option (Option (List ℕ)))
+    → r ≡ Err end → text ≡ Err end → IfRefused text (λ a. (t : List ℕ) × Tells known t × Meets (IsFaulty t) a) → subject command ≡ InputKernel
+    → IfAnswer r (AnswersInput (Some command) known file)
+long_answers {A} r text (Refused a) command known file is was k e =
+    let met : (t : List ℕ) × Tells known t × Meets (IsFaulty t) a = subst (λ z. IfRefused z (λ b. (t : List ℕ) × Tells known t × Meets (IsFaulty t) b)) was k in
+    let answer : AnswersInput (Some command) known file a = (met.0, met.1, faulty_kernel command met.0 refl (input_is_text command met.0 e) met.2) in
+    subst (λ z. IfAnswer z (AnswersInput (Some command) known file)) (sym is) answer
+long_answers {A} r text ReadFault command known file is was k e = subst (λ z. IfAnswer z (AnswersInput (Some command) known file)) (sym is) tt
+long_answers {A} r text NoMemory command known file is was k e = subst (λ z. IfAnswer z (AnswersInput (Some command) known file)) (sym is) tt
+
+-- what answers the text that was read answers the input
+pub told_answers : (r : Result Answer EarlyEnd) (command : Command) (known : Option (List ℕ)) (text : List ℕ) (file held : Option (Option (List ℕ)))
+    → Tells known text → held ≡ file → subject command ≡ InputKernel
+    → ((input : List ℕ) → kernel_text (subject command) input ≡ Some text → IfAnswer r (Meets (Answers (Some command) input held)))
+    → IfAnswer r (AnswersInput (Some command) known file)
+told_answers r command known text file held told same e h =
+    more_of r (Meets (Answers (Some command) text held)) (AnswersInput (Some command) known file)
+    (λ a k. (text, told, subst (λ f. Meets (Answers (Some command) text f) a) same k)) (h text (input_is_text command text e))
+
+-- a take of the file that failed once the input was read
+pub file_fault : (command : Command) (known : Option (List ℕ)) (text : List ℕ) (before mid now : Kind → ℕ) → Tells known text → subject command ≡ InputKernel
+    → mid TakeFile ≡ before TakeFile
+    → ((input : List ℕ) → kernel_text (subject command) input ≡ Some text → (reads_file (Some command) ≡ true) × IsAdmitted command input × Rose (mid TakeFile) (now TakeFile))
+    → ReadCause (Some command) known before now
+file_fault command known text before mid now told e same h =
+    let cause = h text (input_is_text command text e) in
+    of_file command refl cause.0 (record { text = text; told = told; admitted = cause.1 }) (subst (λ n. Rose n (now TakeFile)) same cause.2)
+
+-- words that spell no command
+pub usage_answers : (command : Option Command) (known : Option (List ℕ)) (file : Option (Option (List ℕ))) (a : Answer) → command ≡ None → Meets IsUsage a → AnswersInput command known file a
+usage_answers command known file a is k = let told = told_text known in (told.0, told.1, usage is k)

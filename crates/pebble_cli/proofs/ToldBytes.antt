@@ -1,0 +1,28 @@
+-- There are bytes that a desk tells, also where it tells none.
+use Rattle.std.proofs.Common.{◌≡◌, ◌<◌, ◌+◌, ℕ, List, [], length, replicate, None, Some, refl, sym, ◌∙◌, inl, arith}
+use Rattle.std.proofs.lemmas.List.{length-replicate}
+use Rattle.std.specs.declared.option.Option.{Option}
+use Rattle.desk_io.specs.Known.{Tells, TellsMore, TellsFile, TellsMoreFile}
+use Rattle.pebble_cli.specs.Accepted.{IsKernelFault}
+
+pub told_text : (known : Option (List ℕ)) → (text : List ℕ) × Tells known text
+told_text None = ([], tt)
+told_text (Some known) = (known, refl)
+
+pub told_more : (known : Option (List ℕ)) (limit : ℕ) → TellsMore known limit → (text : List ℕ) × Tells known text × (limit < length text)
+told_more None limit more = (replicate (limit + 1) 0, tt, rw (length-replicate {A = ℕ} (limit + 1) 0) (omega arith))
+told_more (Some known) limit more = (known, refl, more)
+
+pub told_more_file : (known : Option (Option (List ℕ))) (limit : ℕ) → TellsMoreFile known limit → (bytes : List ℕ) × TellsFile known bytes × (limit < length bytes)
+told_more_file None limit more = (replicate (limit + 1) 0, tt, rw (length-replicate {A = ℕ} (limit + 1) 0) (omega arith))
+told_more_file (Some None) limit more = absurd more
+told_more_file (Some (Some known)) limit more = (known, refl, more)
+
+-- a text of more than 65,536 bytes is fault 15 there
+pub too_long : (text : List ℕ) → 65536 < length text → IsKernelFault text 15 65536
+too_long text more = inl (inl (record { long = more; code_is = refl; at_is = refl }))
+
+-- what a desk tells is the text that it is known to have
+pub told_is : (known : Option (List ℕ)) (told text : List ℕ) → Tells known told → known ≡ Some text → told ≡ text
+told_is None told text h e = absurd cc
+told_is (Some known) told text h e = sym h ∙ (let same : known ≡ text = cc in same)

@@ -1,0 +1,15 @@
+-- The laws are lemmas.
+use Rattle.pebble_cli.proofs.CommandLaws.{plan_statuses, plans_are_answered, optimal_where_tight, open_where_loose}
+use Rattle.pebble_cli.proofs.laws.plan.plan_answers.Goals as goal
+
+pub returns-clause-statuses : goal.returns-clause-statuses
+returns-clause-statuses c = plan_statuses
+
+pub returns-clause-answered : goal.returns-clause-answered
+returns-clause-answered c = plans_are_answered
+
+pub returns-clause-optimal : goal.returns-clause-optimal
+returns-clause-optimal c = optimal_where_tight
+
+pub returns-clause-opened : goal.returns-clause-opened
+returns-clause-opened c = open_where_loose

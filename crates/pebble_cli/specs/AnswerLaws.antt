@@ -1,0 +1,86 @@
+-- Laws of the answers over the definitions alone, with no desk: words, an input and a file have one status, each refusal stands exactly
+-- where its cause is met, and a command's own answer exactly where none is. The laws of a command's own statuses stand in a file of its own.
+use Rattle.std.specs.Prelude.{◌≡◌, ◌≢◌, ◌⊎◌, ℕ, ◌+◌, ◌≤◌, true, false, List, Option, None, Some}
+use Rattle.comp_graph.specs.Dags.{degree}
+use Rattle.comp_graph.specs.Graphs.{GraphParts, dag_of}
+use Rattle.kernel_ast.specs.KernelParts.{KernelParts}
+use Rattle.pebble_cli.specs.declared.commands.Command.{Command}
+use Rattle.pebble_cli.specs.declared.status.Status.{Status}
+use Rattle.pebble_cli.specs.declared.status.Status.TheVariants.{Usage, Kernel, TooSmall, ReadFault, WriteFault, NoMemory}
+use Rattle.pebble_cli.specs.Accepted.{IsAccepted, IsKernelFault}
+use Rattle.pebble_cli.specs.Answers.{Answers, LastAnswers, IsAdmitted}
+use Rattle.pebble_cli.specs.Commands.{subject, slots_of, kernel_text, reads_file, writes_file}
+use Rattle.pebble_cli.specs.Faults.{IsFileTold}
+use Rattle.pebble_cli.specs.Refusals.{IsUsage, IsFaulty, IsTooSmall, usage_text, kernel_fault_text, too_small_text}
+use Rattle.pebble_cli.specs.Status.{is_last}
+use Rattle.pebble_cli.specs.Words.{command, IsInLimits}
+
+-- Something holds of each answer.
+abbrev pub OfAnswers : (Option Command → List ℕ → Option (Option (List ℕ)) → Status → List ℕ → Option (List ℕ) → Type 0) → Type 0
+OfAnswers P = (asked : Option Command) (input : List ℕ) (file : Option (Option (List ℕ))) (status : Status) (printed : List ℕ) (table : Option (List ℕ))
+    → Answers asked input file status printed table → P asked input file status printed table
+
+-- ---- one answer
+
+-- Two answers to the same words, input and file have one status: of a refusal in any case, of a command's own answer where the file is told
+-- that the words ask to read.
+abbrev pub OneAnswer : Type 0
+OneAnswer = OfAnswers (λ asked input file status printed table. (other : Status) (text : List ℕ) (bytes : Option (List ℕ))
+    → (is_last status ≡ true → IsFileTold asked file) → Answers asked input file other text bytes → status ≡ other)
+
+-- There is an answer to all words, each input and each file, but for a file that is missing and is to be read.
+abbrev pub SomeAnswer : Type 0
+SomeAnswer = (words : List (List ℕ)) (input : List ℕ) (file : Option (Option (List ℕ)))
+    → (reads_file (command words) ≡ true → file ≡ Some None → ⊥)
+    → (status : Status) × (printed : List ℕ) × (table : Option (List ℕ)) × Answers (command words) input file status printed table
+
+-- The numbers of a command that words spell are in range.
+abbrev pub WordsAreInLimits : Type 0
+WordsAreInLimits = (words : List (List ℕ)) (asked : Command) → command words ≡ Some asked → IsInLimits asked
+
+-- No answer is a fault of the desk or of memory.
+abbrev pub NoFaultIsAnAnswer : Type 0
+NoFaultIsAnAnswer = OfAnswers (λ asked input file status printed table. (status ≢ ReadFault) × ((status ≢ WriteFault) × (status ≢ NoMemory)))
+
+-- A table goes only with a command that writes the file, and with no refusal.
+abbrev pub TablesAreOfWriters : Type 0
+TablesAreOfWriters = OfAnswers (λ asked input file status printed table. (writes_file asked ≡ false) ⊎ (is_last status ≡ false) → table ≡ None)
+
+-- ---- where each refusal stands
+
+-- Usage stands only where the words spell no command, and there it stands always.
+abbrev pub UsageOnly : Type 0
+UsageOnly = OfAnswers (λ asked input file status printed table. status ≡ Usage → (asked ≡ None) × IsUsage status printed table)
+
+abbrev pub UsageAlways : Type 0
+UsageAlways = (input : List ℕ) (file : Option (Option (List ℕ))) → Answers None input file Usage usage_text None
+
+-- Kernel stands only where the command works on a kernel that has a fault, which is printed, and there it stands always.
+abbrev pub KernelOnly : Type 0
+KernelOnly = OfAnswers (λ command input file status printed table. status ≡ Kernel → (asked : Command) × (text : List ℕ) × (command ≡ Some asked)
+    × (kernel_text (subject asked) input ≡ Some text) × IsFaulty text status printed table)
+
+abbrev pub KernelAlways : Type 0
+KernelAlways = (asked : Command) (input text : List ℕ) (file : Option (Option (List ℕ))) (code at : ℕ) → kernel_text (subject asked) input ≡ Some text
+    → IsKernelFault text code at → Answers (Some asked) input file Kernel (kernel_fault_text code at) None
+
+-- TooSmall stands only where the command has slots and works on an accepted kernel whose degree is no less, and there it stands always.
+abbrev pub TooSmallOnly : Type 0
+TooSmallOnly = OfAnswers (λ command input file status printed table. status ≡ TooSmall → (asked : Command) × (text : List ℕ) × (slots : ℕ)
+    × (command ≡ Some asked) × (kernel_text (subject asked) input ≡ Some text) × (slots_of asked ≡ Some slots) × IsTooSmall slots text status printed table)
+
+abbrev pub TooSmallAlways : Type 0
+TooSmallAlways = (asked : Command) (input text : List ℕ) (file : Option (Option (List ℕ))) (slots : ℕ) (kernel : KernelParts) (graph : GraphParts)
+    → IsInLimits asked → kernel_text (subject asked) input ≡ Some text → slots_of asked ≡ Some slots → IsAccepted text kernel graph
+    → slots ≤ degree (dag_of graph) → Answers (Some asked) input file TooSmall (too_small_text (degree (dag_of graph) + 1)) None
+
+-- ---- where a command's own answer stands
+
+-- It stands only where nothing refuses the input, and it is one that the command's own definition gives.
+abbrev pub LastOnly : Type 0
+LastOnly = OfAnswers (λ command input file status printed table. is_last status ≡ true → (asked : Command) × (command ≡ Some asked)
+    × IsAdmitted asked input × LastAnswers asked input file status printed table)
+
+-- There no other answer stands.
+abbrev pub LastAlways : Type 0
+LastAlways = OfAnswers (λ command input file status printed table. (asked : Command) → command ≡ Some asked → IsAdmitted asked input → is_last status ≡ true)

@@ -1,0 +1,19 @@
+-- When a run ends with a read fault, and when the file tells enough to say the answer.
+use Rattle.std.specs.Prelude.{◌≡◌, ℕ, true, List, Option, Some}
+use Rattle.desk_io.specs.declared.desk.Kind.{Kind}
+use Rattle.desk_io.specs.declared.desk.Kind.TheVariants.{TakeInput, TakeFile}
+use Rattle.desk_io.specs.Counts.{Rose}
+use Rattle.pebble_cli.specs.declared.commands.Command.{Command}
+use Rattle.pebble_cli.specs.Answers.{HasAdmitted}
+use Rattle.pebble_cli.specs.Commands.{reads_input, reads_file}
+
+-- a take failed that the words ask for: one of the input; or one of the file, which is read only where the command reads it and nothing
+-- refuses the input
+pub data ReadCause (command : Option Command) (input : Option (List ℕ)) (before now : Kind → ℕ) : Type 0 where
+  of_input : reads_input command ≡ true → Rose (before TakeInput) (now TakeInput) → ReadCause command input before now
+  of_file : (asked : Command) → command ≡ Some asked → reads_file command ≡ true → HasAdmitted asked input
+      → Rose (before TakeFile) (now TakeFile) → ReadCause command input before now
+
+-- the desk tells the file, if the command reads it
+abbrev pub IsFileTold : Option Command → Option (Option (List ℕ)) → Type 0
+IsFileTold command file = reads_file command ≡ true → (held : Option (List ℕ)) × (file ≡ Some held)

@@ -1,0 +1,39 @@
+-- How the answers and the bytes of the code stand to the definitions, for the contracts of the functions that make an answer.
+use Rattle.std.specs.Prelude.{ℕ, ◌≤◌, List, length, Result, Ok, Err}
+use Rattle.std.specs.declared.option.Option.{Option}
+use Rattle.desk_io.specs.Known.{Tells, TellsFile, TellsMoreFile, file_items}
+use Rattle.pebble_cli.specs.declared.answer.Answer.{Answer}
+use Rattle.pebble_cli.specs.declared.answer.EarlyEnd.{EarlyEnd}
+use Rattle.pebble_cli.specs.declared.answer.EarlyEnd.TheVariants.{Refused, ReadFault, NoMemory}
+use Rattle.pebble_cli.specs.declared.answer.FileBytes.{FileBytes}
+use Rattle.pebble_cli.specs.declared.answer.FileBytes.TheVariants.{Whole, TooLong}
+use Rattle.pebble_cli.specs.declared.commands.Command.{Command}
+use Rattle.pebble_cli.specs.declared.status.Status.{Status}
+use Rattle.pebble_cli.specs.Answers.{Answers}
+
+-- the status, the text and the table of the answer are so related
+abbrev pub Meets : (Status → List ℕ → Option (List ℕ) → Type 0) → Answer → Type 0
+Meets R answer = R answer.status answer.text.items (file_items answer.table)
+
+-- the answer answers the command, its input and its file, as far as the desk tells these two
+abbrev pub AnswersInput : Option Command → Option (List ℕ) → Option (Option (List ℕ)) → Answer → Type 0
+AnswersInput command input file answer = (text : List ℕ) × Tells input text × Meets (Answers command text file) answer
+
+-- a fact of the refusal, if there is one
+abbrev pub IfRefused : {A : Type 0} → Result A EarlyEnd → (Answer → Type 0) → Type 0
+IfRefused (Ok value) P = Unit {0}
+IfRefused (Err (Refused answer)) P = P answer
+IfRefused (Err ReadFault) P = Unit {0}
+IfRefused (Err NoMemory) P = Unit {0}
+
+-- a fact of the answer, if there is one: the command's own, or a refusal
+abbrev pub IfAnswer : Result Answer EarlyEnd → (Answer → Type 0) → Type 0
+IfAnswer (Ok answer) P = P answer
+IfAnswer (Err (Refused answer)) P = P answer
+IfAnswer (Err ReadFault) P = Unit {0}
+IfAnswer (Err NoMemory) P = Unit {0}
+
+-- the file is there with these bytes, at most so many, or with more than so many, as far as the desk tells it
+abbrev pub IsFileOf : Option (Option (List ℕ)) → ℕ → FileBytes → Type 0
+IsFileOf file limit (Whole bytes) = TellsFile file bytes.items × (length bytes.items ≤ limit)
+IsFileOf file limit TooLong = TellsMoreFile file limit

@@ -1,0 +1,42 @@
+//! What the words of a command line ask for.
+
+/// What the words ask for.
+#[derive(Clone, Copy, Debug, PartialEq, Eq)]
+pub enum Command {
+    /// `plan`: a plan.
+    Plan(Planning),
+    /// `run`: the outputs of the source on the values of a file.
+    Run,
+    /// `graph`: the graph of the source.
+    Graph,
+}
+
+/// What `plan` asks for.
+#[derive(Clone, Copy, Debug, PartialEq, Eq)]
+pub struct Planning {
+    /// The number of slots, from 1 to 64.
+    pub slots: u16,
+    /// The number of positions that may be expanded. It is 0 for now.
+    pub budget: u32,
+}
+
+/// What a command works on.
+#[derive(Clone, Copy, Debug, PartialEq, Eq)]
+pub enum Subject {
+    /// The kernel whose text the input is.
+    InputKernel,
+}
+
+impl Command {
+    ghost use Rattle.std.specs.Prelude.{◌≡◌};
+    ghost use Rattle.pebble_cli.specs.Commands.{subject};
+
+    /// What the command works on.
+    pub fn subject(self) -> Subject
+        ensures { result ≡ subject self }
+    {
+        match self {
+            Command::Plan(_) | Command::Run | Command::Graph => Subject::InputKernel,
+        }
+    }
+}

@@ -1,0 +1,95 @@
+//! Each kind of call of the desk fails in turn, under words that write no file: what is answered and printed, and that the file stays.
+use crate::{Status, file_word, pebble};
+use desk_io::{Fail as Failing, Kind, MemoryDesk};
+use std::alloc::{AllocError, Global};
+use std::process::Abort;
+use std::test::Fail;
+
+/// A kernel of 36 bytes, so that the take 36 of one byte each finds the end.
+const KERNEL: &str = "kernel p { in x; out y; y = x + 1; }";
+
+/// What `run` prints of it on the file `5`.
+const OUTPUTS: &str = "y = 6\n";
+
+/// What `graph` prints of it.
+const GRAPH: &str = "vertices 2\ninputs 1\ndegree 1\n0 in x\n1 add v0 #1\nout y v1\n";
+
+const USAGE: &str =
+    "usage: pebble plan S TABLE [BUDGET], check S TABLE, run VALUES, exec VALUES, graph, trial N S TABLE\n";
+
+/// Words, the kind and the number of the call that fails, and what comes of them.
+#[derive(Clone, Copy)]
+struct Row(&'static str, Kind, u32, Status, &'static str);
+
+const ROWS: [Row; 21] = [
+    Row("run v", Kind::TakeInput, 0, Status::ReadFault, ""),
+    Row("run v", Kind::TakeInput, 36, Status::ReadFault, ""),
+    Row("run v", Kind::TakeFile, 0, Status::ReadFault, ""),
+    Row("run v", Kind::TakeFile, 1, Status::ReadFault, ""),
+    Row("run v", Kind::PutOutput, 0, Status::WriteFault, ""),
+    Row("run v", Kind::PutOutput, 3, Status::WriteFault, "y ="),
+    Row("run v", Kind::PutOutput, 6, Status::Done, OUTPUTS),
+    Row("run v", Kind::PutFile, 0, Status::Done, OUTPUTS),
+    Row("run v", Kind::ClearFile, 0, Status::Done, OUTPUTS),
+    Row("graph", Kind::TakeInput, 0, Status::ReadFault, ""),
+    Row("graph", Kind::TakeInput, 36, Status::ReadFault, ""),
+    Row("graph", Kind::TakeFile, 0, Status::Done, GRAPH),
+    Row("graph", Kind::PutOutput, 0, Status::WriteFault, ""),
+    Row("graph", Kind::PutOutput, 3, Status::WriteFault, "ver"),
+    Row("graph", Kind::PutFile, 0, Status::Done, GRAPH),
+    Row("graph", Kind::ClearFile, 0, Status::Done, GRAPH),
+    Row("graph v", Kind::TakeInput, 0, Status::Usage, USAGE),
+    Row("graph v", Kind::TakeFile, 0, Status::Usage, USAGE),
+    Row("graph v", Kind::PutOutput, 4, Status::WriteFault, "usag"),
+    Row("graph v", Kind::PutFile, 0, Status::Usage, USAGE),
+    Row("graph v", Kind::ClearFile, 0, Status::Usage, USAGE),
+];
+
+#[test]
+fn failing_calls_without_a_table(rt: HostRuntime) -> Result<(), Fail> {
+    for row in ROWS {
+        check_row(&rt, rt.alloc(), row)?;
+    }
+    Ok(())
+}
+
+// The words of a line, which single spaces part.
+fn words_of(alloc: Global, line: &str) -> Result<Vec<String>, AllocError> {
+    let mut words = Vec::new(alloc);
+    for word in line.split(' ') {
+        words.push(String::from_str(alloc, word)?)?;
+    }
+    Ok(words)
+}
+
+// The words of a row, over a desk on which one call fails, give what the row says, and the file stays. Where nothing is printed but for a
+// write fault, no write was tried.
+fn check_row(rt: &impl Abort, alloc: Global, row: Row) -> Result<(), Fail> {
+    let Row(line, kind, nth, expected, printed) = row;
+    let words = words_of(alloc, line)?;
+    let mut fail = Vec::new(alloc);
+    fail.push(Failing { kind, nth })?;
+    let mut desk = MemoryDesk {
+        name: String::from_str(alloc, file_word(&words))?,
+        input: Vec::from_slice(alloc, KERNEL.as_bytes())?,
+        file: Some(Vec::from_slice(alloc, b"5")?),
+        output: Vec::new(alloc),
+        most: 1,
+        fail,
+        calls: [0; 5],
+        faults: [0; 5],
+        starved: 0,
+    };
+    let status = pebble(alloc, &words, &mut desk);
+    assert_eq!(rt; status, expected);
+    assert!(rt; desk.output.as_slice() == printed.as_bytes());
+    let calls = desk.calls;
+    let written = calls[2] > 0 || calls[3] > 0 || calls[4] > 0;
+    assert!(rt; status != Status::ReadFault || !written);
+    let kept = match &desk.file {
+        Some(file) => file.as_slice() == b"5".as_slice(),
+        None => false,
+    };
+    assert!(rt; kept);
+    Ok(())
+}

@@ -1,0 +1,51 @@
+//! Laws of the answers of all commands, over the definitions alone. With `determined` of `pebble` they say which status comes, and with
+//! `said` what a status means.
+ghost use Rattle.pebble_cli.specs.AnswerLaws.{OneAnswer, SomeAnswer, WordsAreInLimits, NoFaultIsAnAnswer, TablesAreOfWriters};
+ghost use Rattle.pebble_cli.specs.AnswerLaws.{UsageOnly, UsageAlways, KernelOnly, KernelAlways, TooSmallOnly, TooSmallAlways, LastOnly, LastAlways};
+
+/// All answers to the same words, input and file have one status: of a refusal in any case, of a command's own answer where the desk tells
+/// the file that it reads.
+pub fn one_answer()
+    ensures { OneAnswer }
+{}
+
+/// There is an answer to all words, each input and each file, but for a file that is missing and is to be read.
+pub fn some_answer()
+    ensures { SomeAnswer }
+{}
+
+/// The numbers of a command that words spell are in range.
+pub fn words_are_in_limits()
+    ensures { WordsAreInLimits }
+{}
+
+/// No answer is a fault of the desk or of memory. A table goes only with the own answers of commands that write the file.
+pub fn answers_are_sound()
+    ensures no_fault { NoFaultIsAnAnswer }
+    ensures tables { TablesAreOfWriters }
+{}
+
+/// Usage stands exactly where the words spell no command.
+pub fn usage_answers()
+    ensures only { UsageOnly }
+    ensures always { UsageAlways }
+{}
+
+/// Kernel stands exactly where the command works on a kernel with a fault, and its code and place are printed.
+pub fn kernel_answers()
+    ensures only { KernelOnly }
+    ensures always { KernelAlways }
+{}
+
+/// TooSmall stands exactly where the command has slots, works on an accepted kernel, and its slots are at most the degree of the graph. The
+/// degree plus 1 is printed, and there is no complete pebbling.
+pub fn too_small_answers()
+    ensures only { TooSmallOnly }
+    ensures always { TooSmallAlways }
+{}
+
+/// A command's own answer stands exactly where nothing refuses the input.
+pub fn last_answers()
+    ensures only { LastOnly }
+    ensures always { LastAlways }
+{}

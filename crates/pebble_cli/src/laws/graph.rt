@@ -1,0 +1,8 @@
+//! Laws of the answers of `graph`.
+ghost use Rattle.pebble_cli.specs.GraphLaws.{GraphStatuses, DoneWhereAccepted};
+
+/// `graph` answers Kernel or Done: Done exactly to an accepted kernel.
+pub fn graph_answers()
+    ensures statuses { GraphStatuses }
+    ensures done { DoneWhereAccepted }
+{}

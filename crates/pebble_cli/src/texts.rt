@@ -1,5 +1,0 @@
-//! The text of a code.
-
-pub mod code;
-#[cfg(test)]
-mod tests;
