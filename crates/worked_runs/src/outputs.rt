@@ -1,5 +1,5 @@
 //! Kernels that are run on values, with the values of their outputs.
-use crate::program::run_with;
+use example_runs::run_line;
 use pebble_cli::Status;
 use std::alloc::Global;
 use std::process::Abort;
@@ -273,9 +273,235 @@ const RUNS: [Ran; 50] = [
     ),
 ];
 
+/// Kernels with branches and steps.
+const BRANCHES_AND_STEPS: [Ran; 41] = [
+    // Each relation of 0, 1 and 2 with 1; a turn for which it holds puts its digit 1, 2 or 3 behind `y`.
+    Ran(
+        "kernel a { out y; y = 0; for i in 0..3 { if i == 1 { y = y * 10 + i + 1; } } }",
+        "",
+        "y = 2\n",
+    ),
+    Ran(
+        "kernel a { out y; y = 0; for i in 0..3 { if i != 1 { y = y * 10 + i + 1; } } }",
+        "",
+        "y = 13\n",
+    ),
+    Ran(
+        "kernel a { out y; y = 0; for i in 0..3 { if i < 1 { y = y * 10 + i + 1; } } }",
+        "",
+        "y = 1\n",
+    ),
+    Ran(
+        "kernel a { out y; y = 0; for i in 0..3 { if i <= 1 { y = y * 10 + i + 1; } } }",
+        "",
+        "y = 12\n",
+    ),
+    Ran(
+        "kernel a { out y; y = 0; for i in 0..3 { if i > 1 { y = y * 10 + i + 1; } } }",
+        "",
+        "y = 3\n",
+    ),
+    Ran(
+        "kernel a { out y; y = 0; for i in 0..3 { if i >= 1 { y = y * 10 + i + 1; } } }",
+        "",
+        "y = 23\n",
+    ),
+    // They compare as whole numbers, below 0 too: -2, -1, 0 and 1 with -1, with digits from 1 to 4.
+    Ran(
+        "kernel a { out y; y = 0; for i in -2..2 { if i < -1 { y = y * 10 + i + 3; } } }",
+        "",
+        "y = 1\n",
+    ),
+    Ran(
+        "kernel a { out y; y = 0; for i in -2..2 { if i >= -1 { y = y * 10 + i + 3; } } }",
+        "",
+        "y = 234\n",
+    ),
+    Ran(
+        "kernel a { out y; y = 0; for i in -2..2 { if -1 > i { y = y * 10 + i + 3; } } }",
+        "",
+        "y = 1\n",
+    ),
+    Ran(
+        "kernel a { out y; y = 0; if -1000000 < 1000000 { y = 1; } }",
+        "",
+        "y = 1\n",
+    ),
+    // Sides with operators: the cells 02, 11 and 20.
+    Ran(
+        "kernel a { out y; y = 0; for i in 0..3 { for j in 0..3 { if i + j == 2 { y = y * 100 + i * 10 + j; } } } }",
+        "",
+        "y = 21120\n",
+    ),
+    Ran(
+        "kernel a { out y; y = 0; for i in 0..4 { if 2 * i - 1 <= -(i - 5) { y = y * 10 + i + 1; } } }",
+        "",
+        "y = 123\n",
+    ),
+    Ran(
+        "kernel a { out y; y = 0; for i in 0..3 { for j in 0..3 { if i > j { y = y * 100 + i * 10 + j; } } } }",
+        "",
+        "y = 102021\n",
+    ),
+    // `else`: the second block where the relation does not hold; empty blocks do nothing.
+    Ran(
+        "kernel a { out y; y = 0; for i in 0..4 { if i < 2 { y = y * 10 + 1; } else { y = y * 10 + 2; } } }",
+        "",
+        "y = 1122\n",
+    ),
+    Ran(
+        "kernel a { out y; y = 0; for i in 0..4 { if i == 2 { } else { y = y * 10 + i; } } }",
+        "",
+        "y = 13\n",
+    ),
+    Ran(
+        "kernel a { out y; y = 0; for i in 0..4 { if i == 2 { y = 7; } else { } } }",
+        "",
+        "y = 7\n",
+    ),
+    Ran(
+        "kernel a { out y; y = 0; if 0 == 0 { } else { } }",
+        "",
+        "y = 0\n",
+    ),
+    // `else` in `else`: the sign of a number. `else` belongs to the branch whose block stands just before it.
+    Ran(
+        "kernel a { out y[3]; for i in -1..2 { if i < 0 { y[i + 1] = -1; } else { if i == 0 { y[i + 1] = 0; } else { y[i + 1] = 1; } } } }",
+        "",
+        "y[0] = -1\ny[1] = 0\ny[2] = 1\n",
+    ),
+    Ran(
+        "kernel a { out y; y = 0; if 0 == 0 { if 0 == 1 { y = 1; } } else { y = 2; } }",
+        "",
+        "y = 0\n",
+    ),
+    Ran(
+        "kernel a { out y; y = 0; if 0 == 0 { if 0 == 1 { y = 1; } else { y = 2; } } }",
+        "",
+        "y = 2\n",
+    ),
+    Ran(
+        "kernel a { out y; y = 0; if 0 == 1 { } else { if 0 == 1 { y = 1; } else { y = 2; } } }",
+        "",
+        "y = 2\n",
+    ),
+    Ran(
+        "kernel a { out y; y = 0; if 0 == 1 { if 0 == 0 { y = 1; } else { y = 2; } } else { y = 3; } }",
+        "",
+        "y = 3\n",
+    ),
+    // Loops in branches in loops: 00 and 01, then 9, then 2 and 3.
+    Ran(
+        "kernel a { out y; y = 0; for i in 0..3 { if i != 1 { for j in 0..2 { y = y * 10 + i + j; } } else { y = y * 10 + 9; } } }",
+        "",
+        "y = 1923\n",
+    ),
+    Ran(
+        "kernel a { out y; y = 0; if 0 == 0 { for i in 0..3 { if i == 1 { for j in i..3 { y = y * 10 + j; } } } } }",
+        "",
+        "y = 12\n",
+    ),
+    // Inputs in both blocks: the even elements less the odd ones, 1 - 2 + 3 - 4 + 10.
+    Ran(
+        "kernel a { in x[5]; out y; y = 0; for i in 0..5 { if i == 1 { y = y - x[i]; } else { if i == 3 { y = y - x[i]; } else { y = y + x[i]; } } } }",
+        "1 2 3 4 10",
+        "y = 8\n",
+    ),
+    // Each element is set in one of two blocks: a triangle and its mirror.
+    Ran(
+        "kernel a { in x[3]; out y[3][3]; for i in 0..3 { for j in 0..3 { if i <= j { y[i][j] = x[j - i]; } else { y[i][j] = -x[i - j]; } } } }",
+        "1 2 3",
+        "y[0][0] = 1\ny[0][1] = 2\ny[0][2] = 3\ny[1][0] = -2\ny[1][1] = 1\ny[1][2] = 2\ny[2][0] = -3\ny[2][1] = -2\ny[2][2] = 1\n",
+    ),
+    // Steps: 0, 3, 6, 9; 0, 3, and 6 is the end; -5, -1, 3; one that leads beyond the end at once; a loop of no turn.
+    Ran(
+        "kernel a { out y; y = 0; for i in 0..10 by 3 { y = y * 10 + i; } }",
+        "",
+        "y = 369\n",
+    ),
+    Ran(
+        "kernel a { out y; y = 0; for i in 0..6 by 3 { y = y * 10 + i + 1; } }",
+        "",
+        "y = 14\n",
+    ),
+    Ran(
+        "kernel a { out y; y = 0; for i in -5..5 by 4 { y = y * 10 + i + 5; } }",
+        "",
+        "y = 48\n",
+    ),
+    Ran(
+        "kernel a { out y; y = 0; for i in 2..9 by 100 { y = y * 10 + i; } }",
+        "",
+        "y = 2\n",
+    ),
+    Ran(
+        "kernel a { out y; y = 0; for i in 3..3 by 5 { y = 1; } for i in 5..2 by 1 { y = 2; } }",
+        "",
+        "y = 0\n",
+    ),
+    // A step of 1 is that of a loop without one; steps of operators.
+    Ran(
+        "kernel a { out y; y = 0; for i in 0..4 by 1 { y = y * 10 + i; } }",
+        "",
+        "y = 123\n",
+    ),
+    Ran(
+        "kernel a { out y; y = 0; for i in 0..6 by 2 * 3 - 4 { y = y * 10 + i; } }",
+        "",
+        "y = 24\n",
+    ),
+    Ran(
+        "kernel a { out y; y = 0; for i in 0..6 by (1 + 1) { y = y * 10 + i; } for i in 0..6 by --5 { y = y * 10 + i; } }",
+        "",
+        "y = 2405\n",
+    ),
+    // A step by an open index: 0123, then 02, then 03. Both bounds and the step of the inner loop change with the outer one: 12, then 2.
+    Ran(
+        "kernel a { out y; y = 0; for i in 1..4 { for j in 0..4 by i { y = y * 10 + j; } } }",
+        "",
+        "y = 1230203\n",
+    ),
+    Ran(
+        "kernel a { out y; y = 0; for i in 1..3 { for j in i..3 by i { y = y * 10 + j; } } }",
+        "",
+        "y = 122\n",
+    ),
+    // A step by a product: 01234, then 04.
+    Ran(
+        "kernel a { out y; y = 0; for r in 1..3 { for i in 0..5 by r * r { y = y * 10 + i; } } }",
+        "",
+        "y = 123404\n",
+    ),
+    // Great steps and indices; the index behind the last turn is no value of the text.
+    Ran(
+        "kernel a { out y; y = 0; for i in -1000000..1000000 by 1000000 { y = y * 10 + 1; } }",
+        "",
+        "y = 11\n",
+    ),
+    Ran(
+        "kernel a { out y; y = 0; for i in 999999..1000000 by 1000000 { y = i; } }",
+        "",
+        "y = 999999\n",
+    ),
+    // No space that can be left out.
+    Ran(
+        "kernel a{out y;for i in 0..5by 2{if i==4{y=i;}else{y=0;}}}",
+        "",
+        "y = 4\n",
+    ),
+    Ran(
+        "kernel a{out y;y=0;for i in 0..3{if i!=1{y=y*10+i+1;}if i<=0{y=y+4;}if i>=2{y=y+5;}}}",
+        "",
+        "y = 58\n",
+    ),
+];
+
 #[test]
 fn outputs_of_kernels(rt: HostRuntime) -> Result<(), Fail> {
     for row in RUNS {
+        check_run(&rt, rt.alloc(), row)?;
+    }
+    for row in BRANCHES_AND_STEPS {
         check_run(&rt, rt.alloc(), row)?;
     }
     Ok(())
@@ -284,7 +510,7 @@ fn outputs_of_kernels(rt: HostRuntime) -> Result<(), Fail> {
 // The kernel prints these outputs on the values.
 fn check_run(rt: &impl Abort, alloc: Global, row: Ran) -> Result<(), Fail> {
     let Ran(kernel, values, printed) = row;
-    let left = run_with(alloc, "run v", kernel, values.as_bytes())?;
+    let left = run_line(alloc, "run v", kernel.as_bytes(), values.as_bytes())?;
     let bytes = kernel.len();
     assert_eq!(rt;
         left.output.as_slice(),

@@ -1,10 +1,11 @@
 //! The kernels of the folder `kernels/`: their graphs, their first plans with three numbers of slots, and their outputs, by the source and
 //! by the code.
 mod arrays;
+mod branches;
 mod scalars;
 
-use crate::program::run_with;
-use comp_graph::{Game, Graph};
+use comp_graph::{Game, Graph, Weights};
+use example_runs::run_line;
 use first_plan::first;
 use kernel_parser::parse;
 use loop_unroll::unroll;
@@ -15,6 +16,7 @@ use std::alloc::Global;
 use std::process::Abort;
 use std::test::Fail;
 use three_address::lower;
+use values_text::read_values;
 
 /// A kernel and what is known of it. All of this was worked out by hand and by a program that shares nothing with this one.
 #[derive(Clone, Copy)]
@@ -30,19 +32,13 @@ pub struct Known {
     runs: [Run; 2],
 }
 
-/// The cost of the first plan with so many slots, in transfers.
+/// A number of slots, and the cost of the first plan with them, in transfers.
 #[derive(Clone, Copy)]
-pub struct Cost {
-    slots: u16,
-    cost: u32,
-}
+pub struct Cost(pub u16, pub u32);
 
-/// The values of a kernel's inputs, in order of declaration, and what is printed of its outputs.
+/// A values file with the values of a kernel's inputs, and what is printed of its outputs.
 #[derive(Clone, Copy)]
-pub struct Run {
-    inputs: &'static [i64],
-    printed: &'static str,
-}
+pub struct Run(pub &'static str, pub &'static str);
 
 #[test]
 fn kernels_with_arrays(rt: HostRuntime) -> Result<(), Fail> {
@@ -55,6 +51,14 @@ fn kernels_with_arrays(rt: HostRuntime) -> Result<(), Fail> {
 #[test]
 fn kernels_without_arrays(rt: HostRuntime) -> Result<(), Fail> {
     for known in scalars::SCALARS {
+        check_kernel(&rt, rt.alloc(), known)?;
+    }
+    Ok(())
+}
+
+#[test]
+fn kernels_with_branches_and_steps(rt: HostRuntime) -> Result<(), Fail> {
+    for known in branches::BRANCHES {
         check_kernel(&rt, rt.alloc(), known)?;
     }
     Ok(())
@@ -76,13 +80,9 @@ fn check_kernel(rt: &impl Abort, alloc: Global, known: Known) -> Result<(), Fail
 
 // `run` prints the outputs.
 fn check_outputs(rt: &impl Abort, alloc: Global, text: &str, run: Run) -> Result<(), Fail> {
-    let mut values = String::new(alloc);
-    for value in run.inputs {
-        let number = format!(in alloc; "{value} ")?;
-        values.push_str(number.as_str())?;
-    }
-    let left = run_with(alloc, "run v", text, values.as_str().as_bytes())?;
-    assert_eq!(rt; left.output.as_slice(), run.printed.as_bytes());
+    let Run(values, printed) = run;
+    let left = run_line(alloc, "run v", text.as_bytes(), values.as_bytes())?;
+    assert_eq!(rt; left.output.as_slice(), printed.as_bytes());
     assert_eq!(rt; left.status, Status::Done);
     Ok(())
 }
@@ -96,7 +96,7 @@ fn check_graph(rt: &impl Abort, alloc: Global, known: Known) -> Result<(), Fail>
         ..
     } = known;
     let first = format!(in alloc; "vertices {vertices}\ninputs {inputs}\ndegree {degree}\n0 in ")?;
-    let left = run_with(alloc, "graph", known.text, b"old")?;
+    let left = run_line(alloc, "graph", known.text.as_bytes(), b"old")?;
     let output = str::from_utf8(left.output.as_slice())?;
     assert!(rt; output.starts_with(first.as_str()), "{vertices} vertices");
     assert_eq!(rt; left.status, Status::Done);
@@ -107,7 +107,7 @@ fn check_graph(rt: &impl Abort, alloc: Global, known: Known) -> Result<(), Fail>
 fn check_too_small(rt: &impl Abort, alloc: Global, known: Known) -> Result<(), Fail> {
     let degree = known.degree;
     let words = format!(in alloc; "plan {degree} t 0")?;
-    let left = run_with(alloc, words.as_str(), known.text, b"old")?;
+    let left = run_line(alloc, words.as_str(), known.text.as_bytes(), b"old")?;
     let needs = degree.saturating_add(1);
     let line = format!(in alloc; "too small needs {needs}\n")?;
     assert_eq!(rt; left.output.as_slice(), line.as_bytes());
@@ -117,10 +117,10 @@ fn check_too_small(rt: &impl Abort, alloc: Global, known: Known) -> Result<(), F
 
 // `plan` with these slots prints this cost and the bound, and is Optimal where they are equal.
 fn check_plan(rt: &impl Abort, alloc: Global, known: Known, wanted: Cost) -> Result<(), Fail> {
-    let Cost { slots, cost } = wanted;
+    let Cost(slots, cost) = wanted;
     let bound = known.bound;
     let words = format!(in alloc; "plan {slots} t 0")?;
-    let left = run_with(alloc, words.as_str(), known.text, b"old")?;
+    let left = run_line(alloc, words.as_str(), known.text.as_bytes(), b"old")?;
     let lines = format!(in alloc;
         "\n; slots {slots}\n; first {cost}\n; cost {cost}\n; bound {bound}\n"
     )?;
@@ -137,14 +137,17 @@ fn check_plan(rt: &impl Abort, alloc: Global, known: Known, wanted: Cost) -> Res
 
 // The code of the first plan with these slots prints what the source prints, with as many transfers as the plan costs.
 fn check_code(rt: &impl Abort, alloc: Global, known: Known, wanted: Cost) -> Result<(), Fail> {
-    assert!(rt; 0 < wanted.slots && wanted.slots <= 64);
+    let Cost(slots, cost) = wanted;
+    assert!(rt; 0 < slots && slots <= 64);
     let graph = graph_of(alloc, known.text)?;
-    let game = Game::new(graph, wanted.slots).ok().ok_or("too few slots")?;
+    let game = Game::new(graph, slots, Weights { load: 1, store: 1 })
+        .ok()
+        .ok_or("too few slots")?;
     let plan = first(alloc, &game)?;
-    assert_eq!(rt; plan.total(), wanted.cost);
+    assert_eq!(rt; plan.total(), cost);
     let code = emit(alloc, &plan)?;
     for run in known.runs {
-        check_run(rt, alloc, &code, run, wanted.cost)?;
+        check_run(rt, alloc, &code, run, cost)?;
     }
     Ok(())
 }
@@ -159,15 +162,19 @@ fn graph_of(alloc: Global, text: &str) -> Result<Graph, Fail> {
 // A run of the code gives the outputs, and takes as many transfers as the plan costs.
 fn check_run(rt: &impl Abort, alloc: Global, code: &Code, run: Run, cost: u32) -> Result<(), Fail> {
     assert!(rt; code.instructions().len() < 1000 && code.outputs().len() < 1000);
-    assert!(rt; run.inputs.len() < 1000);
-    let ran = exec(alloc, code, run.inputs)?;
+    let Run(values, wanted) = run;
+    let values = read_values(alloc, values.as_bytes())
+        .ok()
+        .ok_or("no values")?;
+    assert!(rt; values.len() < 1000);
+    let ran = exec(alloc, code, &values)?;
     let mut printed = String::new(alloc);
     for (output, value) in code.outputs().iter().zip(ran.outputs.as_slice()) {
         let label = str::from_utf8(output.label.bytes())?;
         let line = format!(in alloc; "{label} = {value}\n")?;
         printed.push_str(line.as_str())?;
     }
-    assert_eq!(rt; printed.as_str(), run.printed);
+    assert_eq!(rt; printed.as_str(), wanted);
     assert_eq!(rt; ran.transfers, cost);
     Ok(())
 }

@@ -1,6 +1,6 @@
 //! The worked examples as tables.
-use crate::program::{run, words_of};
 use desk_io::{Fail, Kind};
+use example_runs::{run_line, run_on, words_of};
 use pebble_cli::Status;
 use std::alloc::{AllocError, Global};
 use std::process::Abort;
@@ -119,8 +119,7 @@ fn plans_and_refusals(rt: HostRuntime) -> Result<(), TestFail> {
 
 // The words and the kernel of a row give what the row says.
 fn check_row(rt: &impl Abort, alloc: Global, row: Row) -> Result<(), TestFail> {
-    let words = words_of(alloc, row.words)?;
-    let left = run(alloc, &words, row.kernel.as_bytes(), 4096, None)?;
+    let left = run_line(alloc, row.words, row.kernel.as_bytes(), b"old")?;
     let bytes = row.kernel.len();
     assert_eq!(rt; left.status, row.status, "a kernel of {bytes} bytes");
     assert_eq!(rt; left.output.as_slice(), row.printed.as_bytes());
@@ -240,7 +239,12 @@ fn check_failure(
     wanted: Failure,
 ) -> Result<(), TestFail> {
     let words = words_of(alloc, "plan 2 t 0")?;
-    let left = run(alloc, &words, P.as_bytes(), 1, fail)?;
+    let mut fails = Vec::new(alloc);
+    if let Some(fail) = fail {
+        fails.push(fail)?;
+    }
+    let file = Vec::from_slice(alloc, b"old")?;
+    let left = run_on(alloc, &words, P.as_bytes(), Some(file), 1, fails)?;
     assert_eq!(rt; left.status, wanted.status, "{}", wanted.nth);
     assert_eq!(rt; left.output.as_slice(), wanted.output);
     let file = left.file.ok_or("no file")?;
@@ -269,7 +273,6 @@ fn padded(alloc: Global, len: usize) -> Result<String, AllocError> {
 
 #[test]
 fn the_limits_of_a_kernel(rt: HostRuntime) -> Result<(), TestFail> {
-    let words = words_of(rt.alloc(), "plan 2 t 0")?;
     let rows = [
         (sums(rt.alloc(), 255)?, Status::Optimal),
         (sums(rt.alloc(), 256)?, Status::Kernel),
@@ -277,7 +280,7 @@ fn the_limits_of_a_kernel(rt: HostRuntime) -> Result<(), TestFail> {
         (padded(rt.alloc(), 65537)?, Status::Kernel),
     ];
     for (text, status) in &rows {
-        let left = run(rt.alloc(), &words, text.as_bytes(), 4096, None)?;
+        let left = run_line(rt.alloc(), "plan 2 t 0", text.as_bytes(), b"old")?;
         assert_eq!(rt; left.status, *status, "{} bytes", text.len());
     }
     Ok(())

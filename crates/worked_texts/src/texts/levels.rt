@@ -15,7 +15,7 @@ pub struct Nest {
     pub pieces: [&'static str; 5],
 }
 
-pub const NESTS: [Nest; 20] = [
+pub const NESTS: [Nest; 28] = [
     // Groups, minus signs, and calls with the inner one as first, second and third argument.
     Nest {
         fits: 32,
@@ -157,6 +157,69 @@ pub const NESTS: [Nest; 20] = [
             "; }",
         ],
     },
+    // Branches: the first block and the second hold the next one.
+    Nest {
+        fits: 32,
+        at: 18 + 32 * 12,
+        answer: Answer::Plan(1),
+        pieces: ["kernel a { out y; ", "if 0 == 0 { ", "y = 1; ", "} ", "}"],
+    },
+    Nest {
+        fits: 32,
+        at: 18 + 32 * 21,
+        answer: Answer::Plan(1),
+        pieces: [
+            "kernel a { out y; ",
+            "if 0 == 1 { } else { ",
+            "y = 1; ",
+            "} ",
+            "}",
+        ],
+    },
+    // A branch is a part round its sides and both its blocks, and a loop round its step.
+    Nest {
+        fits: 31,
+        at: 14 + 31,
+        answer: Answer::Plan(0),
+        pieces: ["kernel a { if ", "(", "0", ")", " == 0 { } }"],
+    },
+    Nest {
+        fits: 31,
+        at: 19 + 31,
+        answer: Answer::Plan(0),
+        pieces: ["kernel a { if 0 == ", "-", "0", "", " { } }"],
+    },
+    Nest {
+        fits: 31,
+        at: 34 + 31,
+        answer: Answer::Plan(1),
+        pieces: ["kernel a { out y; if 0 == 0 { y = ", "(", "1", ")", "; } }"],
+    },
+    Nest {
+        fits: 31,
+        at: 43 + 31,
+        answer: Answer::Plan(1),
+        pieces: [
+            "kernel a { out y; if 0 == 1 { } else { y = ",
+            "(",
+            "1",
+            ")",
+            "; } }",
+        ],
+    },
+    Nest {
+        fits: 31,
+        at: 28 + 31,
+        answer: Answer::Plan(0),
+        pieces: ["kernel a { for i in 0..1 by ", "(", "1", ")", " { } }"],
+    },
+    // A branch that has ended counts no more.
+    Nest {
+        fits: 32,
+        at: 36 + 32,
+        answer: Answer::Plan(1),
+        pieces: ["kernel a { out y; if 0 == 0 { } y = ", "(", "1", ")", "; }"],
+    },
 ];
 
 impl Nest {
@@ -174,7 +237,7 @@ impl Nest {
 
 /// What stands in 32 groups, behind `kernel a { out y; y = ` and 32 parentheses, so at byte 22 + 32, and the fault there: too deep where
 /// a kernel of more levels goes on so, whatever comes later, and else one of the syntax.
-pub const IN_32_GROUPS: [(u8, &str); 11] = [
+pub const IN_32_GROUPS: [(u8, &str); 12] = [
     (13, "("),
     (13, "(1))) = ]"),
     (13, "-"),
@@ -184,18 +247,56 @@ pub const IN_32_GROUPS: [(u8, &str); 11] = [
     (13, "mad 1 2 3"),
     (3, ")"),
     (3, "for i in 0..1 { }"),
+    (3, "if 0 == 0 { }"),
     (3, "+1"),
     (3, ""),
 ];
 
 /// So many loops in one another, what stands in the innermost one, and the answer. The first loop is at byte 18, and each has 16 bytes.
-pub const LOOPS: [(usize, &str, Answer); 6] = [
+pub const LOOPS: [(usize, &str, Answer); 21] = [
     (31, "Y = (1); ", Answer::Plan(1)),
     (31, "Y = -(1); ", Answer::Fault(13, 18 + 31 * 16 + 5)),
     (32, "Y = 1; ", Answer::Plan(1)),
     (32, "Y = (1); ", Answer::Fault(13, 18 + 32 * 16 + 4)),
     (33, "Y = 1; ", Answer::Fault(13, 18 + 32 * 16)),
     (34, "Y = 1; ", Answer::Fault(13, 18 + 32 * 16)),
+    // A branch at level 31, with what stands in it at level 32: its sides, its blocks, and a loop's step.
+    (31, "if 0 == 0 { Y = 1; } ", Answer::Plan(1)),
+    (31, "if 0 == 1 { } else { Y = 1; } ", Answer::Plan(1)),
+    (31, "if 0 == 0 { } Y = (1); ", Answer::Plan(1)),
+    (31, "if (0) == 0 { } ", Answer::Fault(13, 18 + 31 * 16 + 3)),
+    (31, "if 0 == -0 { } ", Answer::Fault(13, 18 + 31 * 16 + 8)),
+    (
+        31,
+        "if 0 == 0 { Y = (1); } ",
+        Answer::Fault(13, 18 + 31 * 16 + 16),
+    ),
+    (
+        31,
+        "if 0 == 0 { } else { Y = -1; } ",
+        Answer::Fault(13, 18 + 31 * 16 + 25),
+    ),
+    (
+        31,
+        "if 0 == 0 { if 0 == 0 { } } ",
+        Answer::Fault(13, 18 + 31 * 16 + 12),
+    ),
+    (
+        31,
+        "if 0 == 0 { } else { for Z in 0..1 { } } ",
+        Answer::Fault(13, 18 + 31 * 16 + 21),
+    ),
+    (30, "for Z in 0..1 by (1) { Y = 1; } ", Answer::Plan(1)),
+    (
+        31,
+        "for Z in 0..1 by (1) { } ",
+        Answer::Fault(13, 18 + 31 * 16 + 17),
+    ),
+    // A branch at level 32, and where none could stand.
+    (32, "if 0 == 0 { Y = 1; } ", Answer::Fault(13, 18 + 32 * 16)),
+    (32, "if", Answer::Fault(13, 18 + 32 * 16)),
+    (32, "else { } ", Answer::Fault(3, 18 + 32 * 16)),
+    (32, "Y = if 0 == 0 { } ", Answer::Fault(3, 18 + 32 * 16 + 4)),
 ];
 
 /// Names for loops in one another, one byte each.

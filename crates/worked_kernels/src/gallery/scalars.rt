@@ -148,20 +148,13 @@ pub const SCALARS: [Known; 8] = [
         inputs: 3,
         degree: 2,
         bound: 5,
-        costs: [
-            Cost { slots: 3, cost: 5 },
-            Cost { slots: 4, cost: 5 },
-            Cost { slots: 8, cost: 5 },
-        ],
+        costs: [Cost(3, 5), Cost(4, 5), Cost(8, 5)],
         runs: [
-            Run {
-                inputs: &[10, 3, 2],
-                printed: "p = 16\nq = 4\n",
-            },
-            Run {
-                inputs: &[i64::MAX, 9223372036854775806, 3],
-                printed: "p = -7\nq = 5\n",
-            },
+            Run("10 3 2", "p = 16\nq = 4\n"),
+            Run(
+                "9223372036854775807 9223372036854775806 3",
+                "p = -7\nq = 5\n",
+            ),
         ],
     },
     Known {
@@ -170,20 +163,13 @@ pub const SCALARS: [Known; 8] = [
         inputs: 4,
         degree: 2,
         bound: 6,
-        costs: [
-            Cost { slots: 3, cost: 14 },
-            Cost { slots: 4, cost: 9 },
-            Cost { slots: 8, cost: 6 },
-        ],
+        costs: [Cost(3, 14), Cost(4, 9), Cost(8, 6)],
         runs: [
-            Run {
-                inputs: &[3, 2, 1, 4],
-                printed: "re = -5\nim = 14\n",
-            },
-            Run {
-                inputs: &[i64::MAX, 1, 2, i64::MIN],
-                printed: "re = 9223372036854775806\nim = -9223372036854775806\n",
-            },
+            Run("3 2 1 4", "re = -5\nim = 14\n"),
+            Run(
+                "9223372036854775807 1 2 -9223372036854775808",
+                "re = 9223372036854775806\nim = -9223372036854775806\n",
+            ),
         ],
     },
     Known {
@@ -192,20 +178,13 @@ pub const SCALARS: [Known; 8] = [
         inputs: 6,
         degree: 2,
         bound: 7,
-        costs: [
-            Cost { slots: 3, cost: 11 },
-            Cost { slots: 4, cost: 7 },
-            Cost { slots: 8, cost: 7 },
-        ],
+        costs: [Cost(3, 11), Cost(4, 7), Cost(8, 7)],
         runs: [
-            Run {
-                inputs: &[1, 2, 3, 1, -2, 1],
-                printed: "y = 0\n",
-            },
-            Run {
-                inputs: &[i64::MAX, i64::MIN, 9223372036854775806, 2, 3, -4],
-                printed: "y = -9223372036854775802\n",
-            },
+            Run("1 2 3 1 -2 1", "y = 0\n"),
+            Run(
+                "9223372036854775807 -9223372036854775808 9223372036854775806 2 3 -4",
+                "y = -9223372036854775802\n",
+            ),
         ],
     },
     Known {
@@ -214,27 +193,13 @@ pub const SCALARS: [Known; 8] = [
         inputs: 6,
         degree: 2,
         bound: 7,
-        costs: [
-            Cost { slots: 3, cost: 10 },
-            Cost { slots: 4, cost: 7 },
-            Cost { slots: 8, cost: 7 },
-        ],
+        costs: [Cost(3, 10), Cost(4, 7), Cost(8, 7)],
         runs: [
-            Run {
-                inputs: &[2, 1, 2, 3, 4, 5],
-                printed: "y = 57\n",
-            },
-            Run {
-                inputs: &[
-                    3,
-                    i64::MAX,
-                    i64::MIN,
-                    i64::MAX,
-                    i64::MIN,
-                    9223372036854775797,
-                ],
-                printed: "y = 9223372036854775707\n",
-            },
+            Run("2 1 2 3 4 5", "y = 57\n"),
+            Run(
+                "3 9223372036854775807 -9223372036854775808 9223372036854775807 -9223372036854775808 9223372036854775797",
+                "y = 9223372036854775707\n",
+            ),
         ],
     },
     Known {
@@ -243,20 +208,13 @@ pub const SCALARS: [Known; 8] = [
         inputs: 3,
         degree: 2,
         bound: 4,
-        costs: [
-            Cost { slots: 3, cost: 4 },
-            Cost { slots: 4, cost: 4 },
-            Cost { slots: 8, cost: 4 },
-        ],
+        costs: [Cost(3, 4), Cost(4, 4), Cost(8, 4)],
         runs: [
-            Run {
-                inputs: &[200, 100, 50],
-                printed: "y = 31850\n",
-            },
-            Run {
-                inputs: &[i64::MAX, 9223372036854775806, i64::MIN],
-                printed: "y = -377\n",
-            },
+            Run("200 100 50", "y = 31850\n"),
+            Run(
+                "9223372036854775807 9223372036854775806 -9223372036854775808",
+                "y = -377\n",
+            ),
         ],
     },
     Known {
@@ -265,20 +223,13 @@ pub const SCALARS: [Known; 8] = [
         inputs: 3,
         degree: 2,
         bound: 4,
-        costs: [
-            Cost { slots: 3, cost: 5 },
-            Cost { slots: 4, cost: 4 },
-            Cost { slots: 8, cost: 4 },
-        ],
+        costs: [Cost(3, 5), Cost(4, 4), Cost(8, 4)],
         runs: [
-            Run {
-                inputs: &[12, 10, 6],
-                printed: "y = 10\n",
-            },
-            Run {
-                inputs: &[i64::MAX, i64::MIN, -4611686018427387904],
-                printed: "y = -4611686018427387905\n",
-            },
+            Run("12 10 6", "y = 10\n"),
+            Run(
+                "9223372036854775807 -9223372036854775808 -4611686018427387904",
+                "y = -4611686018427387905\n",
+            ),
         ],
     },
     Known {
@@ -287,20 +238,13 @@ pub const SCALARS: [Known; 8] = [
         inputs: 2,
         degree: 2,
         bound: 3,
-        costs: [
-            Cost { slots: 3, cost: 3 },
-            Cost { slots: 4, cost: 3 },
-            Cost { slots: 8, cost: 3 },
-        ],
+        costs: [Cost(3, 3), Cost(4, 3), Cost(8, 3)],
         runs: [
-            Run {
-                inputs: &[3, 3],
-                printed: "y = -21\n",
-            },
-            Run {
-                inputs: &[9223372036854775803, -9223372036854775806],
-                printed: "y = 9223372036854775748\n",
-            },
+            Run("3 3", "y = -21\n"),
+            Run(
+                "9223372036854775803 -9223372036854775806",
+                "y = 9223372036854775748\n",
+            ),
         ],
     },
     Known {
@@ -309,20 +253,13 @@ pub const SCALARS: [Known; 8] = [
         inputs: 4,
         degree: 2,
         bound: 6,
-        costs: [
-            Cost { slots: 3, cost: 6 },
-            Cost { slots: 4, cost: 6 },
-            Cost { slots: 8, cost: 6 },
-        ],
+        costs: [Cost(3, 6), Cost(4, 6), Cost(8, 6)],
         runs: [
-            Run {
-                inputs: &[1, 2, 30, 40],
-                printed: "s0 = 31\ns1 = 42\n",
-            },
-            Run {
-                inputs: &[i64::MAX, i64::MIN, 1, -1],
-                printed: "s0 = -9223372036854775808\ns1 = 9223372036854775807\n",
-            },
+            Run("1 2 30 40", "s0 = 31\ns1 = 42\n"),
+            Run(
+                "9223372036854775807 -9223372036854775808 1 -1",
+                "s0 = -9223372036854775808\ns1 = 9223372036854775807\n",
+            ),
         ],
     },
 ];

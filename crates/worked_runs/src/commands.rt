@@ -1,7 +1,6 @@
 //! The commands `run`, `graph` and `plan` on one kernel each: what is printed, the status, and the file that is left.
-use crate::program::{run_on, run_with, words_of};
-use crate::texts::{check_fault, push_times};
 use desk_io::HonestDesk;
+use example_runs::{run_line, run_on, words_of};
 use pebble_cli::{Status, file_word, pebble};
 use std::alloc::Global;
 use std::process::Abort;
@@ -32,7 +31,7 @@ struct Row {
     printed: &'static str,
 }
 
-const ROWS: [Row; 14] = [
+const ROWS: [Row; 21] = [
     Row {
         words: "run v",
         kernel: NO_TURN,
@@ -131,6 +130,57 @@ const ROWS: [Row; 14] = [
         status: Status::Done,
         printed: "",
     },
+    // A loop with a step, a branch on its index, a step below 1, and an input that no side knows.
+    Row {
+        words: "graph",
+        kernel: "kernel b { in A[4]; out y; y = 0; for i in 0..4 by 2 { y = y + A[i]; } }",
+        file: "old",
+        status: Status::Done,
+        printed: "vertices 6\ninputs 4\ndegree 2\n0 in A[0]\n1 in A[1]\n2 in A[2]\n3 in A[3]\n4 add #0 v0\n5 add v4 v2\nout y v5\n",
+    },
+    Row {
+        words: "graph",
+        kernel: "kernel b { out y; for i in 0..4 { if i == 2 { y = i; } else { } } }",
+        file: "old",
+        status: Status::Done,
+        printed: "vertices 1\ninputs 0\ndegree 0\n0 set #2\nout y v0\n",
+    },
+    Row {
+        words: "graph",
+        kernel: "kernel b { out y; for i in 0..3 by 0 { y = 1; } }",
+        file: "old",
+        status: Status::Kernel,
+        printed: "kernel fault K17 at 35\n",
+    },
+    Row {
+        words: "graph",
+        kernel: "kernel b { in x; out y; y = x; if x < 1 { } }",
+        file: "old",
+        status: Status::Kernel,
+        printed: "kernel fault K4 at 34\n",
+    },
+    // The step leads beyond the end at once; each block of a branch has its vertices; a block that is not run has none.
+    Row {
+        words: "graph",
+        kernel: "kernel a { in A[4]; out y; for i in 1..4 by 9 { y = A[i] + i; } }",
+        file: "old",
+        status: Status::Done,
+        printed: "vertices 5\ninputs 4\ndegree 1\n0 in A[0]\n1 in A[1]\n2 in A[2]\n3 in A[3]\n4 add v1 #1\nout y v4\n",
+    },
+    Row {
+        words: "graph",
+        kernel: "kernel a { in x; out y[4]; for i in 0..4 { if i < 2 { y[i] = x + i; } else { y[i] = x * i; } } }",
+        file: "old",
+        status: Status::Done,
+        printed: "vertices 5\ninputs 1\ndegree 1\n0 in x\n1 add v0 #0\n2 add v0 #1\n3 mul v0 #2\n4 mul v0 #3\nout y[0] v1\nout y[1] v2\nout y[2] v3\nout y[3] v4\n",
+    },
+    Row {
+        words: "graph",
+        kernel: "kernel a { in x; out y; y = x; if 1 > 2 { y = x + 1; } }",
+        file: "old",
+        status: Status::Done,
+        printed: "vertices 1\ninputs 1\ndegree 0\n0 in x\nout y v0\n",
+    },
 ];
 
 #[test]
@@ -143,59 +193,11 @@ fn commands_and_what_they_print(rt: HostRuntime) -> Result<(), Fail> {
 
 // The words, the kernel and the file of a row give what the row says, and the file stays.
 fn check_row(rt: &impl Abort, alloc: Global, row: Row) -> Result<(), Fail> {
-    let left = run_with(alloc, row.words, row.kernel, row.file.as_bytes())?;
+    let left = run_line(alloc, row.words, row.kernel.as_bytes(), row.file.as_bytes())?;
     assert_eq!(rt; left.output.as_slice(), row.printed.as_bytes());
     assert_eq!(rt; left.status, row.status);
     let file = left.file.ok_or("no file")?;
     assert_eq!(rt; file.as_slice(), row.file.as_bytes());
-    Ok(())
-}
-
-/// A text for each fault, with its code and its place; two texts are too long to stand here.
-const FAULTS: [(u8, usize, &str); 14] = [
-    (1, 11, "kernel a { ? }"),
-    (2, 22, "kernel a { out y; y = 9223372036854775808; }"),
-    (3, 16, "kernel a { in x out y; }"),
-    (4, 22, "kernel a { out y; y = z; }"),
-    (5, 21, "kernel a { in x; out x; }"),
-    (6, 28, "kernel a { in x; out y; y = x[0]; }"),
-    (7, 31, "kernel a { in A[3]; out y; y = A[3]; }"),
-    (8, 29, "kernel a { out y; tmp t; y = t; }"),
-    (9, 17, "kernel a { in x; x = 1; }"),
-    (10, 15, "kernel a { out y; }"),
-    (11, 27, "kernel a { in A[64][4]; in x; out y; y = x; }"),
-    (12, 38, "kernel a { out y; for i in 0..65536 { y = 1; } }"),
-    (14, 30, "kernel a { out y; for i in 0..1000001 { } }"),
-    (16, 16, "kernel a { in A[65]; out y; }"),
-];
-
-#[test]
-fn faults_of_each_command(rt: HostRuntime) -> Result<(), Fail> {
-    for (code, at, kernel) in FAULTS {
-        check_faults(&rt, rt.alloc(), code, at, kernel)?;
-    }
-    let mut deep = String::from_str(rt.alloc(), "kernel a { out y; y = ")?;
-    push_times(&mut deep, "(", 33)?;
-    deep.push_str("1")?;
-    push_times(&mut deep, ")", 33)?;
-    deep.push_str("; }")?;
-    check_faults(&rt, rt.alloc(), 13, 54, deep.as_str())?;
-    let mut long = String::new(rt.alloc());
-    push_times(&mut long, " ", 65537)?;
-    check_faults(&rt, rt.alloc(), 15, 65536, long.as_str())
-}
-
-// Each command answers the fault of the text, and leaves the file as it was.
-fn check_faults(
-    rt: &impl Abort,
-    alloc: Global,
-    code: u8,
-    at: usize,
-    kernel: &str,
-) -> Result<(), Fail> {
-    for words in ["plan 2 t 0", "run v", "graph"] {
-        check_fault(rt, alloc, run_with(alloc, words, kernel, b"old")?, code, at)?;
-    }
     Ok(())
 }
 
@@ -295,7 +297,7 @@ const REPORTS: [(&str, &str, Status, &str); 3] = [
 #[test]
 fn reports_of_plans(rt: HostRuntime) -> Result<(), Fail> {
     for (words, kernel, status, report) in REPORTS {
-        let left = run_with(rt.alloc(), words, kernel, b"old")?;
+        let left = run_line(rt.alloc(), words, kernel.as_bytes(), b"old")?;
         assert!(rt;
             str::from_utf8(left.output.as_slice())?.starts_with(report),
             "{words}"

@@ -8,12 +8,12 @@ mod bytes;
 mod lengths;
 mod levels;
 mod names;
-mod phases;
+pub mod phases;
 mod syntax;
 mod tokens;
 
-use crate::program::{Left, run, words_of};
 use accepted::Planned;
+use example_runs::{Left, run_line};
 use pebble_cli::Status;
 use phases::First;
 use std::alloc::{AllocError, Global};
@@ -43,8 +43,7 @@ pub fn push_times(text: &mut String, piece: &str, count: usize) -> Result<(), Al
 
 // The program answers this to the text.
 fn check(rt: &impl Abort, alloc: Global, text: &[u8], answer: Answer) -> Result<(), Fail> {
-    let words = words_of(alloc, "plan 4 t 0")?;
-    let left = run(alloc, &words, text, 4096, None)?;
+    let left = run_line(alloc, "plan 4 t 0", text, b"old")?;
     match answer {
         Answer::Fault(code, at) => check_fault(rt, alloc, left, code, at),
         Answer::Plan(cost) => check_plan(rt, alloc, left, cost),
@@ -101,9 +100,12 @@ fn check_cuts(rt: &impl Abort, alloc: Global, code: u8, cuts: &[Cut]) -> Result<
 #[test]
 fn first_faults(rt: HostRuntime) -> Result<(), Fail> {
     check_cuts(&rt, rt.alloc(), 1, &tokens::BAD_CHARACTERS)?;
+    check_cuts(&rt, rt.alloc(), 1, &tokens::BARE_MARKS)?;
     check_cuts(&rt, rt.alloc(), 2, &tokens::TOO_BIG)?;
     check_cuts(&rt, rt.alloc(), 3, &syntax::DECLARATIONS)?;
     check_cuts(&rt, rt.alloc(), 3, &syntax::STATEMENTS)?;
+    check_cuts(&rt, rt.alloc(), 3, &syntax::BRANCHES)?;
+    check_cuts(&rt, rt.alloc(), 3, &syntax::STEPS)?;
     check_cuts(&rt, rt.alloc(), 16, &names::BAD_SIZES)?;
     check_cuts(&rt, rt.alloc(), 5, &names::TWICE)?;
     check_cuts(&rt, rt.alloc(), 4, &names::UNKNOWN)?;
@@ -117,6 +119,9 @@ fn first_of_several_faults(rt: HostRuntime) -> Result<(), Fail> {
         check_cut(&rt, rt.alloc(), code, cut)?;
     }
     for First(code, cut) in phases::AT_ONE_NAME {
+        check_cut(&rt, rt.alloc(), code, cut)?;
+    }
+    for First(code, cut) in names::IN_BRANCHES {
         check_cut(&rt, rt.alloc(), code, cut)?;
     }
     Ok(())
@@ -144,13 +149,20 @@ fn texts_without_fault(rt: HostRuntime) -> Result<(), Fail> {
     for Planned(cost, text) in accepted::WHOLE_LANGUAGE {
         check(&rt, rt.alloc(), text.as_bytes(), Answer::Plan(cost))?;
     }
+    for Planned(cost, text) in accepted::BRANCHES_AND_STEPS {
+        check(&rt, rt.alloc(), text.as_bytes(), Answer::Plan(cost))?;
+    }
     Ok(())
 }
 
 #[test]
 fn names_of_three_scripts(rt: HostRuntime) -> Result<(), Fail> {
-    let words = words_of(rt.alloc(), "plan 2 t 0")?;
-    let left = run(rt.alloc(), &words, accepted::SCRIPTS.as_bytes(), 4096, None)?;
+    let left = run_line(
+        rt.alloc(),
+        "plan 2 t 0",
+        accepted::SCRIPTS.as_bytes(),
+        b"old",
+    )?;
     assert_eq!(rt; left.status, Status::Optimal);
     assert_eq!(rt;
         str::from_utf8(left.output.as_slice())?,

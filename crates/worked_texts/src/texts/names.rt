@@ -1,5 +1,6 @@
 //! Faults of the names.
 use super::Cut;
+use super::phases::First;
 
 /// 16: a size is 0 or above 64.
 pub const BAD_SIZES: [Cut; 10] = [
@@ -119,4 +120,124 @@ pub const INDICES: [Cut; 12] = [
     ),
     // The last name: behind 11, 6, 7, 7 and 8 bytes.
     Cut(39, "kernel a { in x; out y; y = x; y = y + ", "x[0]; }"),
+];
+
+/// Names in steps and branches: declared again, not known, not writable, with other brackets, and of several faults the first.
+pub const IN_BRANCHES: [First; 28] = [
+    // 5: a loop in a block has the name of a loop around the branch, or a declared one.
+    First(
+        5,
+        Cut(
+            43,
+            "kernel a { for i in 0..1 { if i == 0 { for ",
+            "i in 0..1 { } } } }",
+        ),
+    ),
+    First(
+        5,
+        Cut(
+            52,
+            "kernel a { for i in 0..1 { if i == 0 { } else { for ",
+            "i in 0..1 { } } } }",
+        ),
+    ),
+    First(
+        5,
+        Cut(
+            43,
+            "kernel a { if 0 == 0 { for i in 0..1 { for ",
+            "i in 0..1 { } } } }",
+        ),
+    ),
+    First(
+        5,
+        Cut(
+            33,
+            "kernel a { in x; if 0 == 1 { for ",
+            "x in 0..1 by 2 { } } }",
+        ),
+    ),
+    // 4: in a side and in a step only open indices are known: no input, no title, no name of a loop that has ended, nor that of the loop itself.
+    First(
+        4,
+        Cut(34, "kernel b { in x; out y; y = x; if ", "x < 1 { } }"),
+    ),
+    First(4, Cut(24, "kernel a { in x; if 0 < ", "x { } }")),
+    First(4, Cut(14, "kernel a { if ", "i == 0 { } }")),
+    First(4, Cut(19, "kernel a { if 0 == ", "a { } }")),
+    First(
+        4,
+        Cut(32, "kernel a { for i in 0..1 { } if ", "i == 0 { } }"),
+    ),
+    First(
+        4,
+        Cut(
+            53,
+            "kernel a { if 0 == 0 { for i in 0..1 { } } else { if ",
+            "i == 0 { } } }",
+        ),
+    ),
+    First(4, Cut(28, "kernel a { for i in 0..4 by ", "i { } }")),
+    First(4, Cut(34, "kernel a { in n; for i in 0..4 by ", "n { } }")),
+    First(4, Cut(32, "kernel a { for i in 0..4 by 2 * ", "n { } }")),
+    // 4, 9 and 6 in a block that is not run, too.
+    First(
+        4,
+        Cut(41, "kernel a { out y; y = 1; if 0 == 1 { y = ", "z; } }"),
+    ),
+    First(
+        4,
+        Cut(
+            50,
+            "kernel a { out y; if 0 == 0 { y = 1; } else { y = ",
+            "z; } }",
+        ),
+    ),
+    First(9, Cut(29, "kernel a { in x; if 0 == 1 { ", "x = 1; } }")),
+    First(
+        9,
+        Cut(
+            39,
+            "kernel a { for i in 0..1 { if i == 0 { ",
+            "i = 1; } } }",
+        ),
+    ),
+    First(
+        6,
+        Cut(43, "kernel a { in A[2]; out y; if 0 == 1 { y = ", "A; } }"),
+    ),
+    First(
+        6,
+        Cut(
+            59,
+            "kernel a { out y; for i in 0..1 { if 0 == 0 { } else { y = ",
+            "i[0]; } } }",
+        ),
+    ),
+    // Of two names the earlier: left before right, the sides before the blocks, the first block before the second.
+    First(4, Cut(14, "kernel a { if ", "u == v { } }")),
+    First(4, Cut(19, "kernel a { if 0 == ", "v { w = 1; } }")),
+    First(
+        4,
+        Cut(23, "kernel a { if 0 == 0 { ", "u = 1; } else { v = 1; } }"),
+    ),
+    // The loop's name, its bounds, its step, its body.
+    First(5, Cut(21, "kernel a { in i; for ", "i in 0..1 by u { } }")),
+    First(4, Cut(23, "kernel a { for i in 0..", "v by u { } }")),
+    First(4, Cut(28, "kernel a { for i in 0..1 by ", "u { v = 1; } }")),
+    // 16: a size stands before all statements.
+    First(16, Cut(16, "kernel a { in A[", "0]; if z == 0 { } }")),
+    // 2: a number of a side or a step is too great for a token; a token stands before the names.
+    First(
+        2,
+        Cut(19, "kernel a { if z == ", "9223372036854775808 { } }"),
+    ),
+    First(
+        2,
+        Cut(
+            28,
+            "kernel a { for i in z..1 by ",
+            "9223372036854775808 { } }",
+        ),
+    ),
 ];

@@ -2,7 +2,7 @@
 use super::Cut;
 
 /// 1: a character outside comments is no space and begins no token.
-pub const BAD_CHARACTERS: [Cut; 31] = [
+pub const BAD_CHARACTERS: [Cut; 30] = [
     // Where the first token is, a middle one and the last one.
     Cut(0, "", "? kernel a { }"),
     Cut(11, "kernel a { ", "? }"),
@@ -12,7 +12,6 @@ pub const BAD_CHARACTERS: [Cut; 31] = [
     Cut(15, "kernel a { in x", "#; }"),
     Cut(15, "kernel a { in x", "'; }"),
     Cut(15, "kernel a { in x", ": 4; }"),
-    Cut(24, "kernel a { out y; y = 1 ", "< 2; }"),
     Cut(24, "kernel a { out y; y = 1 ", "% 2; }"),
     Cut(22, "kernel a { out y; y = ", "!1; }"),
     Cut(22, "kernel a { out y; y = ", "~1; }"),
@@ -105,4 +104,19 @@ pub const TOO_BIG: [Cut; 19] = [
     ),
     // What stands before counts in bytes.
     Cut(25, "kernel é { out é; é = ", "9223372036854775808; }"),
+];
+
+/// 1: an exclamation mark, which begins a sign only before `=`.
+pub const BARE_MARKS: [Cut; 9] = [
+    Cut(16, "kernel a { if 0 ", "! = 0 { } }"),
+    Cut(16, "kernel a { if 0 ", "!0 { } }"),
+    Cut(16, "kernel a { if 0 ", "!< 0 { } }"),
+    Cut(16, "kernel a { if 0 ", "!! 0 { } }"),
+    Cut(16, "kernel a { if 0 ", "!//\n= 0 { } }"),
+    Cut(16, "kernel a { if 0 ", "!"),
+    // Behind a sign that is read whole: `!=` and `=`.
+    Cut(18, "kernel a { if 0 !=", "! 0 { } }"),
+    Cut(17, "kernel a { if 0 =", "! 0 { } }"),
+    // A sign of other texts.
+    Cut(16, "kernel a { if 0 ", "≠ 0 { } }"),
 ];

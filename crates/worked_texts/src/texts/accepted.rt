@@ -208,3 +208,77 @@ pub const WHOLE_LANGUAGE: [Planned; 46] = [
         "kernel mv { in A[4][4]; in x[4]; out y[4]; for i in 0..4 { y[i] = A[i][0]*x[0]; for j in 1..4 { y[i] = y[i] + A[i][j]*x[j]; } } }",
     ),
 ];
+
+/// Texts with branches and steps, with their costs.
+pub const BRANCHES_AND_STEPS: [Planned; 29] = [
+    // A block that is not run is not at fault: an index, an element that is not set, a step, turns, a vertex too many.
+    Planned(
+        0,
+        "kernel a { in x; in A[1]; out y; y = x; if 0 == 1 { y = A[9]; } }",
+    ),
+    Planned(
+        0,
+        "kernel a { in x; in A[1]; out y; y = x; if 0 == 0 { } else { y = A[1000001]; } }",
+    ),
+    Planned(
+        0,
+        "kernel a { in x; out y; tmp t; y = x; if 1 < 1 { y = t; } }",
+    ),
+    Planned(0, "kernel a { if 0 > 0 { for i in 0..1 by 0 { } } }"),
+    Planned(0, "kernel a { for i in 0..0 { for j in 0..1 by 0 { } } }"),
+    Planned(0, "kernel a { if 0 == 1 { for i in 0..1000000 { } } }"),
+    Planned(
+        0,
+        "kernel a { in A[64][4]; out y; y = A[0][0]; if 1 <= 0 { y = y + 1; } }",
+    ),
+    Planned(0, "kernel a { if 0 == 1 { if 1000001 == 0 { } } else { } }"),
+    // Guards: the fifth turn reads nothing.
+    Planned(
+        0,
+        "kernel a { in A[4]; out y; for i in 0..5 { if i < 4 { y = A[i]; } } }",
+    ),
+    // The limits of a side and of a step.
+    Planned(0, "kernel a { if -1000000 < 1000000 { } }"),
+    Planned(0, "kernel a { for i in 0..1000000 by 1000000 { } }"),
+    Planned(
+        0,
+        "kernel a { for i in -1000000..1000000 by 999999 + 1 { } }",
+    ),
+    // Exactly 65,536 turns. A loop with a step counts 1 and each number, name and sign of the three indices, and then its turns.
+    Planned(0, "kernel a { for i in 0..65532 by 1 { } }"),
+    Planned(0, "kernel a { for i in 0..131064 by 2 { } }"),
+    Planned(0, "kernel a { for i in 0..65530 by 2 - 1 { } }"),
+    // 3 and 3 and 65,530; 3 and 65,527 and 1 + 3 + 2; 3 and 65,527 and 3, and the 3 of the block that is run.
+    Planned(0, "kernel a { if 0 == 0 { } for i in 0..65530 { } }"),
+    Planned(0, "kernel a { for i in 0..65530 { } if 0 == 0 { } }"),
+    Planned(0, "kernel a { for i in 0..65527 { } if 1 + 2 == -0 { } }"),
+    Planned(
+        1,
+        "kernel a { out y; for i in 0..65527 { } if 0 == 0 { y = 1; } else { y = 1; y = 1; } }",
+    ),
+    // 3 and 16,383 turns of 1 + 3, which are 65,535.
+    Planned(0, "kernel a { for i in 0..16383 { if i == 0 { } } }"),
+    // Spaces, none and many, and comments; a number before `by`, and a minus sign behind a relation.
+    Planned(0, "kernel a{for i in 0..4by 2{}if 0==0{}else{}}"),
+    Planned(
+        0,
+        "kernel a { if 0==-1 { } if 0<-1 { } if 0>=--1 { } if 0!=-1 { } }",
+    ),
+    Planned(0, "kernel a { if\t0\r\n<=\n1 { } }"),
+    Planned(0, "kernel a { if 0 == 1 { } // c\n else // { }\n { } }"),
+    Planned(0, "kernel a { for i in 0..4 // step\n by//\n2 { } }"),
+    // Names: that of the title, one that a loop had, and names that begin as the words.
+    Planned(0, "kernel a { for a in 0..1 { if a == a { } } }"),
+    Planned(
+        0,
+        "kernel a { if 0 == 0 { for i in 0..1 { } } else { for i in 0..1 by 1 { } } for i in 0..1 { } }",
+    ),
+    Planned(
+        0,
+        "kernel a { in iffy; out elsewhere; tmp bye; elsewhere = iffy; }",
+    ),
+    Planned(
+        1,
+        "kernel a { out else_; for by_ in 0..2 { if by_ == 1 { else_ = by_; } } }",
+    ),
+];

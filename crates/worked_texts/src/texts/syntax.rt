@@ -69,7 +69,7 @@ pub const DECLARATIONS: [Cut; 55] = [
 ];
 
 /// 3: statements, expressions and indices.
-pub const STATEMENTS: [Cut; 62] = [
+pub const STATEMENTS: [Cut; 59] = [
     // An assignment is a place, an equals sign, an expression and a semicolon.
     Cut(18, "kernel a { out y; ", "1 = y; }"),
     Cut(18, "kernel a { out y; ", "-y = 1; }"),
@@ -77,7 +77,7 @@ pub const STATEMENTS: [Cut; 62] = [
     Cut(18, "kernel a { out y; ", "min = 1; }"),
     Cut(20, "kernel a { out y; y ", "; }"),
     Cut(20, "kernel a { out y; y ", "+= 1; }"),
-    Cut(21, "kernel a { out y; y =", "= 1; }"),
+    Cut(20, "kernel a { out y; y ", "== 1; }"),
     Cut(22, "kernel a { out y; y = ", "; }"),
     Cut(24, "kernel a { out y; y = 1 ", "}"),
     Cut(24, "kernel a { out y; y = 1 ", "= 2; }"),
@@ -111,12 +111,9 @@ pub const STATEMENTS: [Cut; 62] = [
     Cut(29, "kernel a { out y; y = mad(1,2", "); }"),
     Cut(31, "kernel a { out y; y = mad(1,2,3", ",4); }"),
     Cut(23, "kernel a { out y; y = y", "(1); }"),
-    // Reserved words that occur in no kernel, and those that begin no operand.
+    // Reserved words that begin no operand.
     Cut(22, "kernel a { out y; y = ", "by; }"),
     Cut(22, "kernel a { out y; y = ", "in; }"),
-    Cut(11, "kernel a { ", "if y { } }"),
-    Cut(29, "kernel a { for i in 0..1 { } ", "else { } }"),
-    Cut(25, "kernel a { for i in 0..4 ", "by 2 { } }"),
     // A place has at most two brackets, and in each one index.
     Cut(24, "kernel a { out y; y = y[", "]; }"),
     Cut(25, "kernel a { out y; y = y[0", ", 0]; }"),
@@ -143,4 +140,109 @@ pub const STATEMENTS: [Cut; 62] = [
     // A body has no declarations, and none stands behind a loop.
     Cut(27, "kernel a { for i in 0..1 { ", "in x; } }"),
     Cut(29, "kernel a { for i in 0..1 { } ", "in x; }"),
+];
+
+/// 3: branches.
+pub const BRANCHES: [Cut; 57] = [
+    // The longest sign is read first: `===` is `==` and `=`, and so on with the others.
+    Cut(18, "kernel a { if 0 ==", "= 0 { } }"),
+    Cut(18, "kernel a { if 0 !=", "= 0 { } }"),
+    Cut(18, "kernel a { if 0 <=", "= 0 { } }"),
+    Cut(18, "kernel a { if 0 >=", "= 0 { } }"),
+    Cut(17, "kernel a { if 0 <", "< 0 { } }"),
+    Cut(17, "kernel a { if 0 <", "> 0 { } }"),
+    Cut(17, "kernel a { if 0 >", "< 0 { } }"),
+    Cut(18, "kernel a { if 0 >=", "> 0 { } }"),
+    // `=<` is `=` and `<`, and `=` begins no relation; nor do two signs with a space between them make one.
+    Cut(16, "kernel a { if 0 ", "=< 0 { } }"),
+    Cut(16, "kernel a { if 0 ", "=> 0 { } }"),
+    Cut(16, "kernel a { if 0 ", "=!= 0 { } }"),
+    Cut(16, "kernel a { if 0 ", "= 0 { } }"),
+    Cut(16, "kernel a { if 0 ", "= = 0 { } }"),
+    Cut(18, "kernel a { if 0 < ", "= 0 { } }"),
+    Cut(18, "kernel a { if 0 > ", "= 0 { } }"),
+    // A branch has two sides with a relation between them.
+    Cut(14, "kernel a { if ", "{ } }"),
+    Cut(14, "kernel a { if ", "== 0 { } }"),
+    Cut(16, "kernel a { if 0 ", "{ } }"),
+    Cut(19, "kernel a { if 0 == ", "{ } }"),
+    Cut(21, "kernel a { if 0 == 0 ", "== 0 { } }"),
+    Cut(20, "kernel a { if 0 < 1 ", "< 2 { } }"),
+    Cut(17, "kernel a { if (0 ", "== 0) { } }"),
+    Cut(16, "kernel a { if y ", "{ } }"),
+    // A side is an index: no brackets, no calls, and only + - and * in it.
+    Cut(20, "kernel a { if 0 == A", "[0] { } }"),
+    Cut(14, "kernel a { if ", "min(0, 1) == 0 { } }"),
+    Cut(16, "kernel a { if 0 ", "& 1 == 0 { } }"),
+    Cut(21, "kernel a { if 0 == 0 ", "| 1 { } }"),
+    Cut(14, "kernel a { if ", "+1 == 1 { } }"),
+    // Its blocks are in braces, and hold statements alone.
+    Cut(21, "kernel a { if 0 == 0 ", "y = 1; }"),
+    Cut(21, "kernel a { if 0 == 0 ", "; }"),
+    Cut(23, "kernel a { if 0 == 0 { ", "in x; } }"),
+    Cut(30, "kernel a { if 0 == 0 { } else ", "y = 1; }"),
+    Cut(30, "kernel a { if 0 == 0 { } else ", "if 1 == 1 { } }"),
+    Cut(32, "kernel a { if 0 == 0 { } else { ", "tmp t; } }"),
+    Cut(25, "kernel a { if 0 == 0 { } ", "; }"),
+    Cut(25, "kernel a { if 0 == 0 { } ", "in x; }"),
+    // `else` stands behind the first block of a branch, once.
+    Cut(11, "kernel a { ", "else { } }"),
+    Cut(25, "kernel a { out y; y = 1; ", "else { } }"),
+    Cut(29, "kernel a { for i in 0..1 { } ", "else { } }"),
+    Cut(34, "kernel a { if 0 == 0 { } else { } ", "else { } }"),
+    Cut(
+        43,
+        "kernel a { if 0 == 0 { } for i in 0..1 { } ",
+        "else { } }",
+    ),
+    Cut(23, "kernel a { if 0 == 0 { ", "else { } } }"),
+    Cut(
+        43,
+        "kernel a { for i in 0..1 { if i == 0 { } } ",
+        "else { } }",
+    ),
+    // The words are whole: `elseif` and `if0` are names.
+    Cut(18, "kernel a { elseif ", "0 == 0 { } }"),
+    Cut(15, "kernel a { if0 ", "== 0 { } }"),
+    // A branch is no expression, and its signs are no operators.
+    Cut(22, "kernel a { out y; y = ", "if 0 == 0 { 1 } }"),
+    Cut(24, "kernel a { out y; y = 1 ", "< 2; }"),
+    Cut(25, "kernel a { out y; y = (1 ", ">= 2); }"),
+    Cut(35, "kernel a { in A[2]; out y; y = A[0 ", "!= 1]; }"),
+    Cut(20, "kernel a { out y; y ", "<= 1; }"),
+    Cut(22, "kernel a { out y; y = ", "= 1; }"),
+    // The text ends too early.
+    Cut(13, "kernel a { if", ""),
+    Cut(18, "kernel a { if 0 ==", ""),
+    Cut(23, "kernel a { if 0 == 0 { ", ""),
+    Cut(24, "kernel a { if 0 == 0 { }", ""),
+    Cut(29, "kernel a { if 0 == 0 { } else", ""),
+    Cut(33, "kernel a { if 0 == 0 { } else { }", ""),
+];
+
+/// 3: steps of loops.
+pub const STEPS: [Cut; 19] = [
+    // A step is one index, behind the second bound.
+    Cut(28, "kernel a { for i in 0..4 by ", "{ } }"),
+    Cut(30, "kernel a { for i in 0..4 by 2 ", "by 2 { } }"),
+    Cut(22, "kernel a { for i in 0 ", "by 2..4 { } }"),
+    Cut(17, "kernel a { for i ", "by 2 in 0..4 { } }"),
+    Cut(29, "kernel a { for i in 0..4 by 2", "..3 { } }"),
+    Cut(28, "kernel a { for i in 0..4 by ", "= 2 { } }"),
+    Cut(29, "kernel a { for i in 0..4 by A", "[0] { } }"),
+    Cut(28, "kernel a { for i in 0..4 by ", "min(1, 2) { } }"),
+    Cut(30, "kernel a { for i in 0..4 by 2 ", "y = 1; }"),
+    // `by` stands nowhere else, and is no name; `by2` is one.
+    Cut(11, "kernel a { ", "by 2 { } }"),
+    Cut(21, "kernel a { if 0 == 0 ", "by 2 { } }"),
+    Cut(14, "kernel a { if ", "by == 0 { } }"),
+    Cut(15, "kernel a { for ", "by in 0..1 { } }"),
+    Cut(25, "kernel a { for i in 0..4 ", "by2 { } }"),
+    Cut(29, "kernel a { for i in 0..4 { } ", "by 2; }"),
+    // A bound ends before a relation.
+    Cut(25, "kernel a { for i in 0..4 ", "== 1 { } }"),
+    Cut(30, "kernel a { for i in 0..4 by 2 ", "< 3 { } }"),
+    // The text ends too early.
+    Cut(27, "kernel a { for i in 0..4 by", ""),
+    Cut(29, "kernel a { for i in 0..4 by 2", ""),
 ];

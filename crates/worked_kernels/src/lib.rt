@@ -1,0 +1,5 @@
+//! The kernels of the folder `kernels/`. All of this crate is tests.
+#![tactic(auto)]
+
+#[cfg(test)]
+mod gallery;

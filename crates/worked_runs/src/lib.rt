@@ -1,0 +1,9 @@
+//! Runs of the whole program: what the commands print, the statuses, the file that is left, and desks that fail. All of this crate is tests.
+#![tactic(auto)]
+
+#[cfg(test)]
+mod commands;
+#[cfg(test)]
+mod outputs;
+#[cfg(test)]
+mod plans;
