@@ -1,5 +1,5 @@
 -- The first words of a set, and sets whose members they hold.
-use Rattle.std.proofs.Common.{◌≡◌, ℕ, zero, suc, ◌+◌, ◌*◌, ◌/◌, ◌%◌, ◌^◌, ◌<◌, ◌≤◌, Bool, true, false, cond, eqb, ltb, ◌&&◌, length, take, get_or, ◌⊎◌, inl, inr, refl, sym, ap, ◌∙◌, arith}
+use Rattle.std.proofs.Common.{◌≡◌, ℕ, zero, suc, ◌+◌, ◌*◌, ◌/◌, ◌%◌, ◌^◌, ◌<◌, ◌≤◌, Bool, true, false, cond, eqb, ltb, ◌&&◌, [], ◌∷◌, length, take, get_or, ◌⊎◌, inl, inr, refl, sym, ap, ◌∙◌, arith}
 use Rattle.std.specs.Int.{bit_at}
 use Rattle.std.specs.FinSet as sets
 use Rattle.std.proofs.lemmas.List.{length-take-le, get_or-take, get_or_past}
@@ -83,3 +83,10 @@ narrow_from words s all zeros = record { below = λ v member. below v member (ca
 -- a set of vertices is that of its four words
 pub set_of_words-words_of : (s : Vertices) → AllBelow 256 s → set_of_words (words_of s) ≡ s
 set_of_words-words_of s is = read_back 4 s (omega arith) is
+
+-- a set of vertices below 64 is that of its first word
+pub set_of_first_word : (s : Vertices) (w : ℕ) → AllBelow 64 s → w ≡ word_of s 0 → set_of_words (w ∷ 0 ∷ 0 ∷ 0 ∷ []) ≡ s
+set_of_first_word s w is first =
+    let none = λ (k : ℕ) (h : 1 ≤ k). sym (high_word 1 s is k h) in
+    (λ i. set_of_words (first i ∷ none 1 (omega arith) i ∷ none 2 (omega arith) i ∷ none 3 (omega arith) i ∷ []))
+    ∙ set_of_words-words_of s (record { below = λ v member. omega (arith, is.below v member) })

@@ -11,10 +11,12 @@ use std::marker::Model;
 
 /// The graph of a program. Its vertices are the places of a list of nodes: first the inputs, and then operations on constants and
 /// earlier vertices. It keeps the program's title, the labels of the inputs, and the output elements. Contracts see it as a record of
-/// lists. The sets of its inputs, its outputs and its live vertices, and its degree, are found once, when the graph is made.
+/// lists. The sets of its inputs, its outputs and its live vertices, its degree, and the predecessors of its first 64 vertices are found
+/// once, when the graph is made.
 #[derive(Drop)]
 pub struct Graph {
     lists: GraphLists,
+    near: [u64; 64],
     in_set: VertexSet,
     out_set: VertexSet,
     live: VertexSet,
@@ -42,12 +44,14 @@ impl Graph {
         ensures { result ≡ record { title = title; nodes = nodes.items; names = names.items; outputs = outputs.items } }
     {
         let lists = GraphLists::new(title, nodes, names, outputs);
+        let near = lists.near();
         let in_set = lists.in_set();
         let out_set = lists.out_set();
         let live = lists.live();
         let degree = lists.degree(&live);
         Graph {
             lists,
+            near,
             in_set,
             out_set,
             live,
@@ -105,7 +109,11 @@ impl Graph {
         requires { v < length self.now.nodes }
         ensures { result ≡ (dag_of self.now).preds v }
     {
-        self.lists.preds(v)
+        if v < 64 {
+            VertexSet::from_words([self.near[v as usize], 0, 0, 0])
+        } else {
+            self.lists.preds(v)
+        }
     }
 
     /// The vertices that are inputs.

@@ -3,6 +3,7 @@ ghost use Rattle.std.specs.Prelude.{◌≡◌, ℕ, ◌<◌, ◌≤◌, length};
 ghost use Rattle.std.specs.FinSet as set;
 ghost use Rattle.comp_graph.specs.Dags.{live_of, degree};
 ghost use Rattle.comp_graph.specs.Graphs.{GraphParts, IsGraph, dag_of, vertices_of, IsOperandBelow};
+ghost use Rattle.comp_graph.specs.Kept.{AreNear};
 ghost use Rattle.std.specs.List.{All};
 
 use crate::label::Label;
@@ -105,6 +106,18 @@ impl GraphLists {
         let node = &self.nodes[v as usize];
         let arity = node.op.arity();
         vertices(&node.args[..arity as usize])
+    }
+
+    /// For each of the first 64 vertices the first word of its predecessors. They all stand in it, since they are below the vertex.
+    pub(crate) fn near(&self) -> [u64; 64]
+        ensures { AreNear self.now result }
+    {
+        let mut near = [0; 64];
+        let end = self.len().min(64);
+        for v in 0..end {
+            near[v as usize] = self.preds(v).word(0);
+        }
+        near
     }
 
     /// The vertices that are inputs.
