@@ -7,7 +7,7 @@ use std::alloc::{AllocError, Global};
 use std::marker::Model;
 
 /// Room for a fixed count of numbers of 64 bits. The numbers that are written lie side by side, in the order of writing, and are never
-/// moved. When the chunk is dropped its memory goes back to the allocator. Only `new` takes memory.
+/// moved. When the chunk is dropped its memory goes back to the allocator. No contract says these two. Only `new` takes memory.
 pub struct Chunk {
     alloc: Global,
     room: usize,
@@ -44,7 +44,8 @@ impl Drop for Chunk {
 }
 
 impl Chunk {
-    /// A chunk without numbers, with room for `room` of them, which are 8 bytes each. `AllocError` where there is no memory.
+    /// A chunk without numbers, with room for `room` of them, which are 8 bytes each, fewer than 2^63 bytes in all. `AllocError` where there is
+    /// no memory.
     pub fn new(alloc: Global, room: usize) -> Result<Chunk, AllocError>
         requires { room * 8 < 2 ^ 63 }
         ensures { IfOk result (λ c. c ≡ record { room = room; items = [] }) }
@@ -79,7 +80,7 @@ impl Chunk {
         }
     }
 
-    /// The `len` numbers from `from` on, lent without a copy.
+    /// The `len` numbers from `from` on, which must be there, lent without a copy.
     pub fn slice(&self, from: usize, len: usize) -> &[u64]
         requires { from + len ≤ length self.now.items }
         ensures { result.now ≡ take len (drop from self.now.items) }
@@ -87,7 +88,7 @@ impl Chunk {
         self.cells.slice(self.base, from, len)
     }
 
-    /// Writes two other numbers, at `index` and behind it, and changes no other.
+    /// Writes two other numbers, at `index` and behind it, where numbers must be, and changes no other.
     pub fn set_two(&mut self, index: usize, first: u64, second: u64)
         requires { index + 1 < length self.old.items }
         ensures { self.new ≡ with_items self.old (slice_set (slice_set self.old.items index first) (index + 1) second) }

@@ -1,3 +1,4 @@
+-- The definitions of the search, its laws, and what holds of it at each turn.
 pub mod Steps
 pub mod Search
 pub mod SearchLaws

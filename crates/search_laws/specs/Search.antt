@@ -11,22 +11,25 @@ use Rattle.potential_cert.specs.declared.tables.Row.{Row}
 use Rattle.normal_steps.specs.StepTests.{can_finish, legal_steps}
 use Rattle.search_laws.specs.Steps.{same_position}
 
+-- what became of an entry: it waits, it was expanded and is a row, or it was given up since no play through it can beat the plan
 pub data Mark : Type 0 where
   waiting : Mark
   expanded : Mark
   given_up : Mark
 
+-- the entry waits
 abbrev pub is_waiting : Mark → Bool
 is_waiting waiting = true
 is_waiting expanded = false
 is_waiting given_up = false
 
+-- the entry was expanded: it is a row
 abbrev pub is_expanded : Mark → Bool
 is_expanded waiting = false
 is_expanded expanded = true
 is_expanded given_up = false
 
--- a position, the cost at which the play leads to it, and the play
+-- a position, the cost at which the play leads to it, the play, and its mark
 pub record Entry : Type 0 where
   pub position : Position
   pub cost : ℕ
@@ -39,10 +42,11 @@ pub record Search : Type 0 where
   pub cost : ℕ
   pub entries : List Entry
 
+-- the start, which costs nothing and waits
 abbrev pub first_entry : PebbleGame → Entry
 first_entry g = record { position = start g; cost = 0; play = []; mark = waiting }
 
--- the search before its first turn
+-- the search before its first turn: the first plan, and the start where a play from it may cost less
 unfoldable pub begun : PebbleGame → List Step → Search
 begun g plan = record {
   plan = plan;
@@ -80,13 +84,15 @@ tried g play q h t =
     (record { plan = play; cost = h + finish_cost g q; entries = t.entries })
     (record { plan = t.plan; cost = t.cost; entries = without t.entries q ++ record { position = q; cost = h; play = play; mark = waiting } ∷ [] }))
 
+-- what the search makes of a step from an entry's position
 abbrev pub step_tried : PebbleGame → Entry → Search → Step → Search
 step_tried g e t s = tried g (e.play ++ s ∷ []) (stepped g e.position s) (e.cost + step_cost g e.position s) t
 
--- the entry becomes a row, and each legal step from it is tried in order
+-- the entry becomes a row
 abbrev pub opened : Entry → Search → Search
 opened e t = record { plan = t.plan; cost = t.cost; entries = marked_at expanded e.position t.entries }
 
+-- the entry becomes a row, and each legal step from it is tried in order
 unfoldable pub expand : PebbleGame → Entry → Search → Search
 expand g e t = fold (step_tried g e) (opened e t) (legal_steps g e.position)
 
@@ -94,9 +100,11 @@ expand g e t = fold (step_tried g e) (opened e t) (legal_steps g e.position)
 abbrev pub is_beaten : PebbleGame → Search → Entry → Bool
 is_beaten g t e = leb t.cost (e.cost + floor g e.position)
 
+-- the entry is given up
 abbrev pub give_up : Entry → Search → Search
 give_up e t = record { plan = t.plan; cost = t.cost; entries = marked_at given_up e.position t.entries }
 
+-- what is made of the next entry, or of there being none
 abbrev pub if_next : {X : Type 0} → Option Entry → X → (Entry → X) → X
 if_next None x f = x
 if_next (Some e) x f = f e
@@ -113,6 +121,8 @@ search_on g (suc budget) t =
     if_next (next_waiting (settle g (length t.entries) t).entries) (settle g (length t.entries) t)
     (λ e. search_on g budget (expand g e (settle g (length t.entries) t)))
 
+-- The search for a cheaper plan than this one, with this budget of rows: from the first plan and the start, turn by turn. It is the
+-- definition that the planner's rows, costs and plan are measured by.
 abbrev pub searched : PebbleGame → List Step → ℕ → Search
 searched g plan budget = search_on g budget (begun g plan)
 
@@ -121,5 +131,6 @@ abbrev pub rows_of : List Entry → List Row
 rows_of [] = []
 rows_of (e ∷ es) = cond (is_expanded e.mark) (record { position = e.position; cost = e.cost } ∷ rows_of es) (rows_of es)
 
+-- the rows that the search leaves, in the order in which their positions got their costs
 abbrev pub rows_searched : PebbleGame → List Step → ℕ → List Row
 rows_searched g plan budget = rows_of (searched g plan budget).entries

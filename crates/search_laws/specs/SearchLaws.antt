@@ -17,6 +17,7 @@ use Rattle.normal_steps.specs.StepTests.{legal_steps}
 use Rattle.search_laws.specs.Steps.{same_position}
 use Rattle.search_laws.specs.Search.{Entry, Search, searched, rows_searched, next_waiting, is_beaten, give_up, expand, search_on}
 
+-- the test of positions holds where they are one
 abbrev pub PositionsAreTested : Type 0
 PositionsAreTested = (p q : Position) → same_position p q ≡ true ↔ (p ≡ q)
 
@@ -30,6 +31,7 @@ pub record IsNoWorse (g : PebbleGame) (plan : List Step) (budget : ℕ) : Type 0
   pub costs : total_cost g (start g) (searched g plan budget).plan ≡ (searched g plan budget).cost
   pub no_more : (searched g plan budget).cost ≤ total_cost g (start g) plan
 
+-- it is so from each plan that finishes, with each budget
 abbrev pub PlanIsNoWorse : Type 0
 PlanIsNoWorse = (g : PebbleGame) → IsDag g.dag → (plan : List Step) → IsFinishing g (start g) plan → (budget : ℕ) → IsNoWorse g plan budget
 
@@ -43,6 +45,7 @@ pub record MakesInOrder (g : PebbleGame) (plan : List Step) (budget : ℕ) : Typ
   pub kept : (r : Row) → IsIn r (rows_searched g plan budget) → IsIn r (rows_searched g plan (suc budget))
   pub later : (r q : Row) → IsIn r (rows_searched g plan budget) → IsIn q (rows_searched g plan (suc budget)) → IsIn q (rows_searched g plan budget) ⊎ (r.cost ≤ q.cost)
 
+-- it is so of each search: the rows are made in order of cost
 abbrev pub RowsAreMadeInOrder : Type 0
 RowsAreMadeInOrder = (g : PebbleGame) → IsDag g.dag → (plan : List Step) → IsFinishing g (start g) plan → (budget : ℕ) → MakesInOrder g plan budget
 
@@ -63,10 +66,11 @@ pub record StopsEarly (g : PebbleGame) (plan : List Step) (budget : ℕ) : Type 
   pub few : length (rows_searched g plan budget) ≤ budget
   pub fewer : length (rows_searched g plan budget) < budget → (bound : ℕ) → IsSupport g (rows_searched g plan budget) (searched g plan budget).cost bound → bound ≡ (searched g plan budget).cost
 
+-- it is so of each search
 abbrev pub FewRowsAreOptimal : Type 0
 FewRowsAreOptimal = (g : PebbleGame) → IsDag g.dag → (plan : List Step) → IsFinishing g (start g) plan → (budget : ℕ) → StopsEarly g plan budget
 
--- where the budget is at least the number of positions with blue inputs, the support is the answered cost
+-- where the budget is at least the number of positions whose blue set holds the inputs, the support is the answered cost
 abbrev pub EnoughBudgetIsOptimal : Type 0
 EnoughBudgetIsOptimal = (g : PebbleGame) → IsDag g.dag → (plan : List Step) → IsFinishing g (start g) plan → (budget : ℕ)
     → 2 ^ (2 * g.dag.count - size g.dag.inputs) ≤ budget
@@ -84,12 +88,13 @@ OpenFillsBudget = (g : PebbleGame) → IsDag g.dag → (plan : List Step) → Is
     → (bound : ℕ) → IsSupport g (rows_searched g plan budget) (searched g plan budget).cost bound
     → bound < (searched g plan budget).cost → length (rows_searched g plan budget) ≡ budget
 
--- what the search makes of its state
+-- what a search makes of its state in a turn, and where it ends
 pub record GoesByTurns (g : PebbleGame) (t : Search) : Type 0 where
   pub budget_spent : search_on g zero t ≡ t
   pub none_waits : (budget : ℕ) → next_waiting t.entries ≡ None → search_on g budget t ≡ t
   pub given_up : (budget : ℕ) (e : Entry) → next_waiting t.entries ≡ Some e → is_beaten g t e ≡ true → search_on g (suc budget) t ≡ search_on g (suc budget) (give_up e t)
   pub expanded : (budget : ℕ) (e : Entry) → next_waiting t.entries ≡ Some e → is_beaten g t e ≡ false → search_on g (suc budget) t ≡ search_on g budget (expand g e t)
 
+-- it is so of each state: the definition is that of the plain turns
 abbrev pub SearchGoesByTurns : Type 0
 SearchGoesByTurns = (g : PebbleGame) (t : Search) → GoesByTurns g t

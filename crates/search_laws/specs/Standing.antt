@@ -12,10 +12,12 @@ use Rattle.potential_cert.specs.Table.{offer}
 use Rattle.search_laws.specs.Search.{is_waiting, is_expanded, Entry, Search, rows_of}
 
 -- no position stands in two entries
+-- no two entries have one position
 abbrev pub AreApart : List Entry → Type 0
 AreApart [] = ⊤
 AreApart (e ∷ es) = ((f : Entry) → IsIn f es → f.position ≡ e.position → ⊥) × AreApart es
 
+-- an entry's position and cost, as a row
 abbrev pub row_of : Entry → Row
 row_of e = record { position = e.position; cost = e.cost }
 
@@ -25,12 +27,13 @@ pub record IsNext (es : List Entry) (e : Entry) : Type 0 where
   pub waits : is_waiting e.mark ≡ true
   pub least : (f : Entry) → IsIn f es → is_waiting f.mark ≡ true → e.cost ≤ f.cost
 
--- the play leads from the start to the position at the cost, where no play can finish
+-- the play leads from the start to the position at the cost
 pub record IsPlayed (g : PebbleGame) (p : Position) (c : ℕ) (ss : List Step) : Type 0 where
   pub play : IsPlay g (start g) ss
   pub ends : play_after g (start g) ss ≡ p
   pub costs : play_cost g (start g) ss ≡ c
 
+-- the position has an entry of at most this cost
 abbrev pub HasEntryWithin : List Entry → Position → ℕ → Type 0
 HasEntryWithin es q h = (e : Entry) × IsIn e es × (e.position ≡ q) × (e.cost ≤ h)
 
@@ -38,6 +41,7 @@ HasEntryWithin es q h = (e : Entry) × IsIn e es × (e.position ≡ q) × (e.cos
 abbrev pub IsSettled : PebbleGame → Search → Row → Step → Type 0
 IsSettled g t r s = (t.cost ≤ offer g r s) ⊎ HasEntryWithin t.entries (stepped g r.position s) (r.cost + step_cost g r.position s)
 
+-- the start, at no cost
 abbrev pub start_row : PebbleGame → Row
 start_row g = record { position = start g; cost = 0 }
 
@@ -47,6 +51,8 @@ pub record IsFresh (g : PebbleGame) (t : Search) : Type 0 where
   pub starts : (e : Entry) → IsIn e t.entries → row_of e ≡ start_row g
   pub some : (t.cost ≤ floor g (start g)) ⊎ ((e : Entry) × IsIn e t.entries)
 
+-- What holds of a search at each turn: its plan finishes at its cost, which is no more than the first plan's; its entries are played,
+-- unfinished and apart; those given up cannot beat the plan; and each row costs no more than what waits.
 pub record IsKept (g : PebbleGame) (first : ℕ) (t : Search) : Type 0 where
   pub finishing : IsFinishing g (start g) t.plan
   pub costs : total_cost g (start g) t.plan ≡ t.cost

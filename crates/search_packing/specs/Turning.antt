@@ -27,6 +27,7 @@ pub record AreTried (g : PebbleGame) (k : ℕ) (s : Store) (b : Best) (u : Store
       → (after : ℕ → List Step) × (after k ≡ plays k) × Packs g first u c after (fold (step_tried g (entry_at s plays k)) t ss)
 
 -- the next entry as it waited
+-- the entry of a place before it became a row
 abbrev pub next_entry : Store → (ℕ → List Step) → ℕ → Entry
 next_entry s plays k = record (entry_at s plays k) { mark = waiting }
 
@@ -37,6 +38,7 @@ pub record IsContinued (g : PebbleGame) (most : ℕ) (first : List Step) (plays 
   pub stands : Stands g most search
   pub goes : (n : ℕ) → search_on g (suc n) t ≡ search_on g (suc n) search
 
+-- so goes on each search that the first state stands for
 abbrev pub Continues : Store → Store → Best → Type 0
 Continues s u b = (g : PebbleGame) → IsDag g.dag → (most : ℕ) (first : List Step) (plays : ℕ → List Step) (t : Search) → Packs g first s b plays t → Stands g most t → IsContinued g most first plays u b t
 
@@ -50,6 +52,7 @@ pub record HasNext (g : PebbleGame) (most : ℕ) (first : List Step) (plays : �
   pub next : IsNext search.entries (next_entry u plays k)
   pub goes : (n : ℕ) → search_on g (suc n) t ≡ search_on g n (expand g (next_entry u plays k) search)
 
+-- so each search that the first state stands for finds its next row
 abbrev pub FindsNext : Store → Store → Best → ℕ → Type 0
 FindsNext s u b k = (g : PebbleGame) → IsDag g.dag → (most : ℕ) (first : List Step) (plays : ℕ → List Step) (t : Search) → Packs g first s b plays t → Stands g most t → HasNext g most first plays u b t k
 
@@ -60,6 +63,7 @@ pub record HasStopped (g : PebbleGame) (most : ℕ) (first : List Step) (plays :
   pub stands : Stands g most search
   pub goes : (n : ℕ) → search_on g (suc n) t ≡ search
 
+-- so ends each search that the first state stands for
 abbrev pub Stops : Store → Store → Best → Type 0
 Stops s u b = (g : PebbleGame) → IsDag g.dag → (most : ℕ) (first : List Step) (plays : ℕ → List Step) (t : Search) → Packs g first s b plays t → Stands g most t → HasStopped g most first plays u b t
 
