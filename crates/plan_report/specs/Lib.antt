@@ -2,3 +2,4 @@
 pub mod ReportText
 pub mod OutputsText
 pub mod GraphText
+pub mod TrialText

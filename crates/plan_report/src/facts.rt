@@ -73,7 +73,7 @@ fn add_remark(text: &mut Vec<u8>, name: &str, value: &[u8]) -> Result<(), NoMemo
 }
 
 // The word of a verdict.
-fn verdict_word(optimal: bool) -> &'static str
+pub(crate) fn verdict_word(optimal: bool) -> &'static str
     ensures { result.now ≡ verdict_word optimal }
 {
     if optimal { "Optimal" } else { "Open" }

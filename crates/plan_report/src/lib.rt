@@ -1,4 +1,4 @@
-//! The texts that the program prints: the report of a plan, the values of a program's outputs, and a graph.
+//! The texts that the program prints: the report of a plan, the values of a program's outputs, a graph, and a trial.
 //!
 //! Each text is a list of lines, each of words parted by one space and ended by a line feed. Numbers are plain decimal, with a `-` where
 //! they are negative. The texts are this project's convention; `specs/` says each as a whole.
@@ -9,7 +9,9 @@ mod graph;
 mod outputs;
 #[cfg(test)]
 mod tests;
+mod trial;
 
 pub use facts::{Facts, report};
 pub use graph::graph_text;
 pub use outputs::outputs_text;
+pub use trial::trial_text;

@@ -2,6 +2,7 @@
 use crate::facts::{Facts, report};
 use crate::graph::graph_text;
 use crate::outputs::outputs_text;
+use crate::trial::trial_text;
 use comp_graph::{Graph, Label, Node, Op, Operand, Output};
 use std::alloc::{AllocError, Global};
 use std::test::Fail;
@@ -117,6 +118,26 @@ fn reports(rt: HostRuntime) -> Result<(), Fail> {
     let text = report(rt.alloc(), &title, &facts)?;
     let expected =
         b"; kernel p\n; vertices 2\n; inputs 1\n; degree 1\n; slots 3\n; first 6\n; cost 5\n; bound 4\n; expanded 7\n; budget 20000\n; verdict Open\n";
+    assert!(rt; text.as_slice() == expected.as_slice());
+    Ok(())
+}
+
+#[test]
+fn trials(rt: HostRuntime) -> Result<(), Fail> {
+    let facts = Facts {
+        vertices: 19,
+        inputs: 16,
+        degree: 2,
+        slots: 3,
+        first: 5,
+        cost: 4,
+        bound: 3,
+        expanded: 7,
+        budget: 2000,
+        optimal: false,
+    };
+    let text = trial_text(rt.alloc(), 3, &facts)?;
+    let expected = b"trial 3\nvertices 19\nfirst 5\ncost 4 bound 3\nexpanded 7 Open\n";
     assert!(rt; text.as_slice() == expected.as_slice());
     Ok(())
 }

@@ -1,26 +1,15 @@
 -- The lines, added one by one, are the text.
-use Rattle.std.proofs.Common.{◌≡◌, ℕ, List, [], ◌∷◌, ◌++◌, ap, ◌∙◌, append_assoc, refl}
+use Rattle.std.proofs.Common.{◌≡◌, ℕ, List, [], ◌∷◌, ◌++◌, ap, ◌∙◌, refl}
 use Rattle.std.specs.Prelude.{codes}
 use Rattle.std.specs.Fmt.{decimal}
-use Rattle.line_texts.specs.Lines.{ended}
 use Rattle.plan_report.specs.ReportText.{remark, verdict_word}
+use Rattle.plan_report.proofs.AddedLines.{Holds, line_added}
 use Rattle.plan_report.proofs.facts.report.Goals as goal
-
--- the text is these lines
-record Holds (text : List ℕ) (lines : List (List ℕ)) : Type 0 where
-  same : text ≡ ended lines
-
--- a line more at the end
-ended-more : (lines : List (List ℕ)) (line : List ℕ) → ended lines ++ (line ++ 10 ∷ []) ≡ ended (lines ++ line ∷ [])
-ended-more [] line = refl
-ended-more (first ∷ lines) line = append_assoc first (10 ∷ ended lines) (line ++ 10 ∷ []) ∙ ap (λ rest. first ++ 10 ∷ rest) (ended-more lines line)
 
 -- one more line, of a value that was given
 more : (name value : List ℕ) {given before after : List ℕ} {lines : List (List ℕ)} → Holds before lines → given ≡ value
     → after ≡ before ++ (remark name given ++ 10 ∷ []) → Holds after (lines ++ remark name value ∷ [])
-more name value {before = before} {lines = lines} holds same added = record {
-  same = added ∙ ap (λ text. before ++ (remark name text ++ 10 ∷ [])) same ∙ ap (λ text. text ++ (remark name value ++ 10 ∷ [])) holds.same ∙ ended-more lines (remark name value);
-}
+more name value holds same added = line_added (remark name value) holds (ap (remark name) same) added
 
 pub returns : goal.returns
 returns c =

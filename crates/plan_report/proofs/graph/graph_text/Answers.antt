@@ -1,12 +1,9 @@
 -- Before the output elements stand the first lines and those of the vertices.
 use Rattle.std.proofs.Common.{◌≡◌, ℕ, List, [], ◌∷◌, ◌++◌, map, refl, sym, ap, ◌∙◌, append_assoc}
 use Rattle.line_texts.specs.Lines.{ended}
+use Rattle.line_texts.proofs.Fronts.{ended-append}
 use Rattle.plan_report.specs.GraphText as spec
 use Rattle.plan_report.proofs.graph.graph_text.Goals as goal
-
-ended-append : (lines others : List (List ℕ)) → ended (lines ++ others) ≡ ended lines ++ ended others
-ended-append [] others = refl
-ended-append (line ∷ lines) others = ap (λ z. line ++ 10 ∷ z) (ended-append lines others) ∙ sym (append_assoc line (10 ∷ ended lines) (ended others))
 
 three_parts : (text front : List ℕ) (first second third : List (List ℕ)) → front ≡ ended first → text ≡ front ++ ended second → text ++ ended third ≡ ended (first ++ (second ++ third))
 three_parts text front first second third begins goes =
