@@ -1,12 +1,14 @@
 //! The report of a plan.
 ghost use Rattle.std.specs.Prelude.{◌≡◌, ◌++◌, ◌∷◌, [], OnOk, IfOk};
 ghost use Rattle.std.specs.Fmt.{decimal};
-ghost use Rattle.plan_report.specs.ReportText.{remark, verdict_word, report_text};
+ghost use Rattle.line_texts.specs.Lines.{ended};
+ghost use Rattle.plan_report.specs.ReportText.{remark, game_lines, weight_lines, plan_lines, verdict_word, report_text};
 
-use comp_graph::{Label, NoMemory};
+use comp_graph::{Label, NoMemory, Weights};
 use std::alloc::Global;
 
-/// What a report says of a plan. The costs and the bound count transfers between the fast and the slow memory.
+/// What a report says of a plan. The costs and the bound count the loads and the stores between the slow and the fast memory, each by its
+/// weight.
 #[derive(Clone, Copy, Debug, PartialEq, Eq)]
 pub struct Facts {
     /// The number of vertices of the graph.
@@ -17,6 +19,8 @@ pub struct Facts {
     pub degree: u16,
     /// The number of slots of the fast memory.
     pub slots: u16,
+    /// What a load and a store cost.
+    pub weights: Weights,
     /// The cost of the first plan.
     pub first: u32,
     /// The cost of the best plan that was found.
@@ -32,24 +36,54 @@ pub struct Facts {
 }
 
 /// The report: eleven lines `; NAME VALUE`, each ended by a line feed, for the kernel's title and each fact, in the order `kernel`,
-/// `vertices`, `inputs`, `degree`, `slots`, `first`, `cost`, `bound`, `expanded`, `budget`, `verdict`. The verdict is `Optimal` or
-/// `Open`. [`NoMemory`] comes where memory was wanted and not found.
+/// `vertices`, `inputs`, `degree`, `slots`, `first`, `cost`, `bound`, `expanded`, `budget`, `verdict`. Where a load or a store does not
+/// cost 1, the lines `load` and `store` stand after `slots`. The verdict is `Optimal` or `Open`. [`NoMemory`] comes where memory was wanted
+/// and not found.
 pub fn report(alloc: Global, title: &Label, facts: &Facts) -> Result<Vec<u8>, NoMemory>
     ensures { IfOk result (λ text. text.items ≡ report_text title.now facts.now) }
 {
     let mut text = Vec::new(alloc);
-    add_remark(&mut text, "kernel", title.bytes())?;
-    add_number(alloc, &mut text, "vertices", u32::from(facts.vertices))?;
-    add_number(alloc, &mut text, "inputs", u32::from(facts.inputs))?;
-    add_number(alloc, &mut text, "degree", u32::from(facts.degree))?;
-    add_number(alloc, &mut text, "slots", u32::from(facts.slots))?;
-    add_number(alloc, &mut text, "first", facts.first)?;
-    add_number(alloc, &mut text, "cost", facts.cost)?;
-    add_number(alloc, &mut text, "bound", facts.bound)?;
-    add_number(alloc, &mut text, "expanded", facts.expanded)?;
-    add_number(alloc, &mut text, "budget", facts.budget)?;
-    add_remark(&mut text, "verdict", verdict_word(facts.optimal).as_bytes())?;
+    add_game(alloc, &mut text, title, facts)?;
+    add_weights(alloc, &mut text, facts.weights)?;
+    add_plan(alloc, &mut text, facts)?;
     Ok(text)
+}
+
+// Adds the lines on the kernel, its graph and the slots.
+fn add_game(alloc: Global, text: &mut Vec<u8>, title: &Label, facts: &Facts) -> Result<(), NoMemory>
+    ensures { OnOk result (text.new.items ≡ text.old.items ++ ended (game_lines title.now facts.now)) }
+{
+    add_remark(text, "kernel", title.bytes())?;
+    add_number(alloc, text, "vertices", u32::from(facts.vertices))?;
+    add_number(alloc, text, "inputs", u32::from(facts.inputs))?;
+    add_number(alloc, text, "degree", u32::from(facts.degree))?;
+    add_number(alloc, text, "slots", u32::from(facts.slots))?;
+    Ok(())
+}
+
+// Adds the lines on what a load and a store cost, where one of them does not cost 1.
+fn add_weights(alloc: Global, text: &mut Vec<u8>, weights: Weights) -> Result<(), NoMemory>
+    ensures { OnOk result (text.new.items ≡ text.old.items ++ ended (weight_lines weights)) }
+{
+    if weights.load == 1 && weights.store == 1 {
+        return Ok(());
+    }
+    add_number(alloc, text, "load", u32::from(weights.load))?;
+    add_number(alloc, text, "store", u32::from(weights.store))?;
+    Ok(())
+}
+
+// Adds the lines on costs, the bound, the search and the verdict.
+fn add_plan(alloc: Global, text: &mut Vec<u8>, facts: &Facts) -> Result<(), NoMemory>
+    ensures { OnOk result (text.new.items ≡ text.old.items ++ ended (plan_lines facts.now)) }
+{
+    add_number(alloc, text, "first", facts.first)?;
+    add_number(alloc, text, "cost", facts.cost)?;
+    add_number(alloc, text, "bound", facts.bound)?;
+    add_number(alloc, text, "expanded", facts.expanded)?;
+    add_number(alloc, text, "budget", facts.budget)?;
+    add_remark(text, "verdict", verdict_word(facts.optimal).as_bytes())?;
+    Ok(())
 }
 
 // Adds the line of a fact whose value is a number.

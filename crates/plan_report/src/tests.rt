@@ -3,9 +3,11 @@ use crate::facts::{Facts, report};
 use crate::graph::graph_text;
 use crate::outputs::outputs_text;
 use crate::trial::trial_text;
-use comp_graph::{Graph, Label, Node, Op, Operand, Output};
+use comp_graph::{Graph, Label, Node, Op, Operand, Output, Weights};
 use std::alloc::{AllocError, Global};
 use std::test::Fail;
+
+const UNIT: Weights = Weights { load: 1, store: 1 };
 
 fn label(alloc: Global, text: &str) -> Result<Label, AllocError> {
     Ok(Label::new(Vec::from_slice(alloc, text.as_bytes())?))
@@ -108,6 +110,7 @@ fn reports(rt: HostRuntime) -> Result<(), Fail> {
         inputs: 1,
         degree: 1,
         slots: 3,
+        weights: UNIT,
         first: 6,
         cost: 5,
         bound: 4,
@@ -119,6 +122,14 @@ fn reports(rt: HostRuntime) -> Result<(), Fail> {
     let expected =
         b"; kernel p\n; vertices 2\n; inputs 1\n; degree 1\n; slots 3\n; first 6\n; cost 5\n; bound 4\n; expanded 7\n; budget 20000\n; verdict Open\n";
     assert!(rt; text.as_slice() == expected.as_slice());
+    let weighed = Facts {
+        weights: Weights { load: 1, store: 16 },
+        ..facts
+    };
+    let text = report(rt.alloc(), &title, &weighed)?;
+    let expected =
+        b"; kernel p\n; vertices 2\n; inputs 1\n; degree 1\n; slots 3\n; load 1\n; store 16\n; first 6\n; cost 5\n; bound 4\n; expanded 7\n; budget 20000\n; verdict Open\n";
+    assert!(rt; text.as_slice() == expected.as_slice());
     Ok(())
 }
 
@@ -129,6 +140,7 @@ fn trials(rt: HostRuntime) -> Result<(), Fail> {
         inputs: 16,
         degree: 2,
         slots: 3,
+        weights: UNIT,
         first: 5,
         cost: 4,
         bound: 3,

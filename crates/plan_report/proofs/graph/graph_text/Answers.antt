@@ -1,5 +1,5 @@
 -- Before the output elements stand the first lines and those of the vertices.
-use Rattle.std.proofs.Common.{◌≡◌, ℕ, List, [], ◌∷◌, ◌++◌, map, refl, sym, ap, ◌∙◌, append_assoc}
+use Rattle.std.proofs.Common.{◌≡◌, ℕ, List, ◌++◌, map, sym, ap, ◌∙◌, append_assoc}
 use Rattle.line_texts.specs.Lines.{ended}
 use Rattle.line_texts.proofs.Fronts.{ended-append}
 use Rattle.plan_report.specs.GraphText as spec
