@@ -15,3 +15,4 @@ pub mod RawWeights
 pub mod RawFits
 pub mod KernelTexts
 pub mod TextLaws
+pub mod Accepted

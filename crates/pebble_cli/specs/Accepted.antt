@@ -1,8 +1,7 @@
 -- Which texts the program accepts, and which fault it prints of another (this project's convention). The faults are those of the text
 -- and, where the text has none, the first fault of its kernel's run.
-use Rattle.std.specs.Prelude.{◌≡◌, ◌⊎◌, ℕ, List, Ok, Some}
+use Rattle.std.specs.Prelude.{◌≡◌, ◌⊎◌, ℕ, List, Some}
 use Rattle.comp_graph.specs.Graphs.{GraphParts}
-use Rattle.kernel_ast.specs.KernelGraph.{graph_of}
 use Rattle.kernel_ast.specs.KernelParts.{KernelParts}
 use Rattle.kernel_ast.specs.Meaning.{shape_fault}
 use Rattle.kernel_ast.specs.Places.{fault}
@@ -14,10 +13,8 @@ use Rattle.loop_unroll.specs.declared.flat.ShapeEnd.TheVariants as shape
 use Rattle.pebble_cli.specs.declared.kernel.KernelEnd.{KernelEnd}
 use Rattle.pebble_cli.specs.declared.kernel.KernelEnd.TheVariants.{Fault, NoMemory}
 
--- The text is accepted: it stands for this kernel, and the kernel has this graph.
-pub record IsAccepted (text : List ℕ) (kernel : KernelParts) (graph : GraphParts) : Type 0 where
-  pub reads : Reads text kernel
-  pub evaluated : graph_of kernel ≡ Ok graph
+-- a text is accepted where it stands for a kernel that has a graph
+pub use Rattle.kernel_parser.specs.Accepted.{IsAccepted}
 
 -- The text has no fault of its own, and this is the first fault of its kernel's run: of the walk, or else of the values.
 pub record IsShapeFault (text : List ℕ) (code at : ℕ) : Type 0 where
