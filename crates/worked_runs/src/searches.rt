@@ -31,7 +31,7 @@ struct Row(
     &'static str,
 );
 
-const ROWS: [Row; 8] = [
+const ROWS: [Row; 9] = [
     Row(
         "plan 1 t",
         "kernel w { in x; out y; y = x; }",
@@ -74,6 +74,14 @@ const ROWS: [Row; 8] = [
         Status::Optimal,
         "; kernel knot\n; vertices 6\n; inputs 1\n; degree 2\n; slots 3\n; first 4\n; cost 3\n; bound 3\n; expanded ",
         "; budget 20000\n; verdict Optimal\nslots 3\n",
+    ),
+    // The last sum is wanted last: with the product before it nothing is stored between. Fourteen positions are expanded, as docs/PLAN.md tells.
+    Row(
+        "plan 3 t",
+        "kernel late { in x; out y; tmp a; tmp b; a = x + 1; b = x * 2; a = a * x; y = b * a; }",
+        Status::Optimal,
+        "; kernel late\n; vertices 5\n; inputs 1\n; degree 2\n; slots 3\n; first 4\n; cost 2\n; bound 2\n; expanded 14\n",
+        "; budget 20000\n; verdict Optimal\nslots 3\nwords 2\nin x\nout y 1\nload 0 0\nadd 1 s0 #1\nmul 2 s1 s0\nmul 1 s0 #2\nmul 0 s1 s2\nstore 0 1\nend\n",
     ),
     Row(
         "plan 4 t",
