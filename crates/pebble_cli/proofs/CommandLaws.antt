@@ -1,7 +1,15 @@
 -- The laws of the answers of each command: where its statuses stand.
-use Rattle.std.proofs.Common.{◌≡◌, ◌⊎◌, ℕ, ◌<◌, Bool, true, false, List, Option, Some, inl, inr, refl, sym, ap, ◌∙◌, arith}
+use Rattle.std.proofs.Common.{◌≡◌, ◌⊎◌, ℕ, zero, suc, ◌*◌, ◌-◌, ◌≤◌, ◌<◌, Bool, true, false, List, length, Option, Some, inl, inr, refl, sym, ap, ◌∙◌, subst, arith}
+use Rattle.std.specs.Prelude.{◌^◌}
 use Rattle.comp_graph.specs.Dags.{degree}
-use Rattle.comp_graph.specs.Graphs.{GraphParts, dag_of}
+use Rattle.comp_graph.specs.Graphs.{GraphParts, IsGraph, dag_of}
+use Rattle.comp_graph.specs.Vertices.{size, count_below}
+use Rattle.comp_graph.proofs.GraphLaws.{IsDag-dag_of, inputs_of-first}
+use Rattle.comp_graph.proofs.Sets.{size_set_below}
+use Rattle.first_plan.specs.FirstPlan.{first_steps}
+use Rattle.forced_bounds.proofs.Ends.{floor_of_finish}
+use Rattle.potential_cert.specs.Table.{IsSupport}
+use Rattle.search_laws.proofs.Count.{enough_budget_is_optimal}
 use Rattle.kernel_ast.specs.KernelParts.{KernelParts}
 use Rattle.pebble_cli.specs.declared.commands.Command.TheVariants.{Plan, Run, Graph}
 use Rattle.pebble_cli.specs.declared.commands.Planning.{Planning}
@@ -11,11 +19,14 @@ use Rattle.pebble_cli.specs.Accepted.{IsAccepted}
 use Rattle.pebble_cli.specs.Answers.{Answers}
 use Rattle.pebble_cli.specs.GraphAnswers.{IsDrawn}
 use Rattle.pebble_cli.specs.GraphLaws.{GraphStatuses, DoneWhereAccepted}
-use Rattle.pebble_cli.specs.PlanAnswers.{IsPlanned, verdict_status}
-use Rattle.pebble_cli.specs.PlanLaws.{PlanStatuses, PlansAreAnswered, OptimalWhereTight, OpenWhereLoose}
+use Rattle.pebble_cli.specs.PlanAnswers.{IsPlanned, plan_asked, rows_asked, search_asked, verdict_status}
+use Rattle.pebble_cli.specs.PlanLaws.{PlanStatuses, PlansAreAnswered, OptimalWhereTight, OpenWhereLoose, OptimalWhereEnough}
+use Rattle.pebble_cli.specs.PlayedGames.{played_for}
 use Rattle.pebble_cli.specs.RunAnswers.{Runs, IsValued, IsWrongValues}
 use Rattle.pebble_cli.specs.RunLaws.{RunStatuses, DoneWhereValues, ValuesWhereNone}
+use Rattle.pebble_cli.proofs.Accepting.{accepted_graph}
 use Rattle.pebble_cli.proofs.AnswerLaws.{Kinds, faulty, small, last, kind_of, to_last}
+use Rattle.pebble_cli.proofs.FoundPlans.{first_finishes, found_no_worse}
 use Rattle.pebble_cli.proofs.GraphKept as to_graph
 use Rattle.pebble_cli.proofs.PlanKept as to_plan
 use Rattle.pebble_cli.proofs.RunKept as to_run
@@ -51,17 +62,41 @@ pub optimal_where_tight : OptimalWhereTight
 optimal_where_tight asked input file status printed table kernel graph h accepted room tight =
     let k = planned asked input file status printed table kernel graph h accepted room in
     let numbers = to_plan.planned_numbers asked input kernel graph status printed table accepted k in
-    k.ends ∙ ap verdict_status (k.answer.is_optimal.1 (numbers.0 ∙ tight ∙ sym numbers.1))
+    let bound = to_plan.one_bound asked graph k.plan.bound (plan_asked asked graph).total numbers.0 tight in
+    k.ends ∙ ap verdict_status (k.answer.is_optimal.1 (bound ∙ sym numbers.1))
 
 pub open_where_loose : OpenWhereLoose
-open_where_loose asked input file status printed table kernel graph h accepted room loose =
+open_where_loose asked input file status printed table kernel graph h accepted room bound is loose =
     let k = planned asked input file status printed table kernel graph h accepted room in
     let numbers = to_plan.planned_numbers asked input kernel graph status printed table accepted k in
-    by_verdict k.plan.optimal (λ e. let equal = k.answer.is_optimal.0 e in omega (arith, numbers.0, numbers.1, equal, loose)) k.ends
+    let same = to_plan.one_bound asked graph k.plan.bound bound numbers.0 is in
+    by_verdict k.plan.optimal (λ e. let equal = k.answer.is_optimal.0 e in omega (arith, same, numbers.1, equal, loose)) k.ends
   where
     by_verdict : (optimal : Bool) → (optimal ≡ true → ⊥) → status ≡ verdict_status optimal → status ≡ Open
     by_verdict true not e = absurd (not refl)
     by_verdict false not e = e
+
+-- the numbers below n are n
+all_below : (n : ℕ) → count_below (λ v. true) n ≡ n
+unfolding count_below
+all_below zero = refl
+all_below (suc n) = omega (arith, all_below n)
+
+-- there are as many inputs as names
+inputs_counted : (graph : GraphParts) → IsGraph graph → size (dag_of graph).inputs ≡ length graph.names
+inputs_counted graph valid = ap size (sym (inputs_of-first graph valid)) ∙ size_set_below (λ v. true) (length graph.names) ∙ all_below (length graph.names)
+
+pub optimal_where_enough : OptimalWhereEnough
+optimal_where_enough asked input file status printed table kernel graph h accepted room enough =
+    let k = planned asked input file status printed table kernel graph h accepted room in
+    let valid = accepted_graph accepted in
+    let numbers = to_plan.planned_numbers asked input kernel graph status printed table accepted k in
+    let costs : (plan_asked asked graph).total ≡ (search_asked asked graph).cost = (found_no_worse asked graph valid room).costs in
+    let support = subst (λ cost. IsSupport (played_for asked graph) (rows_asked asked graph) cost k.plan.bound) costs numbers.0 in
+    let many = subst (λ i. 2 ^ (2 * length graph.nodes - i) ≤ asked.budget) (sym (inputs_counted graph valid)) enough in
+    let bound = enough_budget_is_optimal floor_of_finish (played_for asked graph) (IsDag-dag_of graph valid) (first_steps (played_for asked graph)) (first_finishes asked graph valid room)
+    asked.budget many k.plan.bound support in
+    k.ends ∙ ap verdict_status (k.answer.is_optimal.1 (bound ∙ sym costs ∙ sym numbers.1))
 
 -- ---- run
 

@@ -1,12 +1,12 @@
 -- The numbers of a command that words spell are in range.
-use Rattle.std.proofs.Common.{◌≡◌, ℕ, ◌≤◌, Bool, true, false, cond, List, [], ◌∷◌, Option, Some, None, refl, subst}
+use Rattle.std.proofs.Common.{◌≡◌, ℕ, ◌≤◌, Bool, true, false, cond, List, [], ◌∷◌, Option, Some, None, refl, subst, arith}
 use Rattle.std.proofs.lemmas.Bool.{and_parts, leb-true}
 use Rattle.std.specs.Prelude.{codes}
 use Rattle.std.specs.Str.{bytes_eq}
 use Rattle.pebble_cli.specs.declared.commands.Command.{Command}
 use Rattle.pebble_cli.specs.declared.commands.Command.TheVariants.{Plan, Run, Graph}
 use Rattle.pebble_cli.specs.AnswerLaws.{WordsAreInLimits}
-use Rattle.pebble_cli.specs.Words.{number, plan_command, run_command, digits_after, IsInLimits}
+use Rattle.pebble_cli.specs.Words.{number, plan_command, run_command, digits_after, default_budget, IsInLimits}
 
 -- a choice that gives something passed its test
 chosen : {A : Type 0} (test : Bool) (choice : Option A) (found : A) → cond test choice None ≡ Some found → (test ≡ true) × (choice ≡ Some found)
@@ -26,7 +26,7 @@ run_in_limits : (values : List ℕ) (asked : Command) → run_command values ≡
 run_in_limits [] asked e = absurd (cc)
 run_in_limits (c ∷ cs) asked e = let same : Run ≡ asked = cc in subst IsInLimits same tt
 
-plan_in_limits : (slots : Option ℕ) (table : List ℕ) (budget : Option ℕ) (asked : Command) → ((n : ℕ) → slots ≡ Some n → (1 ≤ n) × (n ≤ 64)) → ((n : ℕ) → budget ≡ Some n → n ≤ 0)
+plan_in_limits : (slots : Option ℕ) (table : List ℕ) (budget : Option ℕ) (asked : Command) → ((n : ℕ) → slots ≡ Some n → (1 ≤ n) × (n ≤ 64)) → ((n : ℕ) → budget ≡ Some n → n ≤ 150000)
     → plan_command slots table budget ≡ Some asked → IsInLimits asked
 plan_in_limits None table budget asked few none e = absurd (cc)
 plan_in_limits (Some slots) [] budget asked few none e = absurd (cc)
@@ -43,8 +43,10 @@ words_are_in_limits (name ∷ []) asked e =
     let same : Graph ≡ asked = (let found = both.1 in cc) in
     subst IsInLimits same tt
 words_are_in_limits (name ∷ values ∷ []) asked e = run_in_limits values asked (chosen (bytes_eq name (codes "run")) (run_command values) asked e).1
-words_are_in_limits (name ∷ slots ∷ table ∷ []) asked e = absurd (cc)
+words_are_in_limits (name ∷ slots ∷ table ∷ []) asked e =
+    plan_in_limits (number 1 64 slots) table (Some default_budget) asked (number_in_range 1 64 slots) (λ n is. let same : default_budget ≡ n = cc in omega (arith, same))
+    (chosen (bytes_eq name (codes "plan")) (plan_command (number 1 64 slots) table (Some default_budget)) asked e).1
 words_are_in_limits (name ∷ slots ∷ table ∷ budget ∷ []) asked e =
-    plan_in_limits (number 1 64 slots) table (number 0 0 budget) asked (number_in_range 1 64 slots) (λ n is. (number_in_range 0 0 budget n is).1)
-    (chosen (bytes_eq name (codes "plan")) (plan_command (number 1 64 slots) table (number 0 0 budget)) asked e).1
+    plan_in_limits (number 1 64 slots) table (number 0 150000 budget) asked (number_in_range 1 64 slots) (λ n is. (number_in_range 0 150000 budget n is).1)
+    (chosen (bytes_eq name (codes "plan")) (plan_command (number 1 64 slots) table (number 0 150000 budget)) asked e).1
 words_are_in_limits (name ∷ slots ∷ table ∷ budget ∷ other ∷ more) asked e = absurd (cc)

@@ -1,6 +1,9 @@
 -- How the answers and the bytes of the code stand to the definitions, for the contracts of the functions that make an answer.
-use Rattle.std.specs.Prelude.{ℕ, ◌≤◌, List, length, Result, Ok, Err}
+use Rattle.std.specs.Prelude.{ℕ, ◌≤◌, Bool, true, false, List, length, Result, Ok, Err}
 use Rattle.std.specs.declared.option.Option.{Option}
+use Rattle.branch_bound.specs.declared.searching.Found.{Found}
+use Rattle.branch_bound.specs.declared.searching.Verdict.{Verdict}
+use Rattle.branch_bound.specs.declared.searching.Verdict.TheVariants.{Optimal, Open}
 use Rattle.desk_io.specs.Known.{Tells, TellsFile, TellsMoreFile, file_items}
 use Rattle.pebble_cli.specs.declared.answer.Answer.{Answer}
 use Rattle.pebble_cli.specs.declared.answer.EarlyEnd.{EarlyEnd}
@@ -9,7 +12,9 @@ use Rattle.pebble_cli.specs.declared.answer.FileBytes.{FileBytes}
 use Rattle.pebble_cli.specs.declared.answer.FileBytes.TheVariants.{Whole, TooLong}
 use Rattle.pebble_cli.specs.declared.commands.Command.{Command}
 use Rattle.pebble_cli.specs.declared.status.Status.{Status}
+use Rattle.slot_alloc.specs.PlanCode.{plan_code}
 use Rattle.pebble_cli.specs.Answers.{Answers}
+use Rattle.pebble_cli.specs.PlanAnswers.{PrintedPlan}
 
 -- the status, the text and the table of the answer are so related
 abbrev pub Meets : (Status → List ℕ → Option (List ℕ) → Type 0) → Answer → Type 0
@@ -37,3 +42,19 @@ IfAnswer (Err NoMemory) P = Unit {0}
 abbrev pub IsFileOf : Option (Option (List ℕ)) → ℕ → FileBytes → Type 0
 IsFileOf file limit (Whole bytes) = TellsFile file bytes.items × (length bytes.items ≤ limit)
 IsFileOf file limit TooLong = TellsMoreFile file limit
+
+-- whether the verdict of a search is Optimal
+abbrev pub is_optimal : Verdict → Bool
+is_optimal Optimal = true
+is_optimal Open = false
+
+-- what is printed of what a search found: its numbers, its verdict, and the code of its plan
+abbrev pub printed_of : Found → PrintedPlan
+printed_of found = record {
+  first = found.first_cost;
+  cost = found.plan.total;
+  bound = found.table.bound;
+  expanded = length found.table.rows;
+  optimal = is_optimal found.verdict;
+  code = plan_code found.plan;
+}

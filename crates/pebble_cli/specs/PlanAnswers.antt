@@ -1,15 +1,15 @@
 -- What `plan` answers to an accepted kernel with enough slots: the numbers that it prints, the verdict and the code, and when they answer
 -- a kernel, a number of slots and a budget of positions. This is the promise of the program for a kernel that it accepts.
-use Rattle.std.specs.Prelude.{◌≡◌, ℕ, ℤ, ◌≤◌, ◌<◌, ◌↔◌, ◌==◌, Bool, true, false, List, [], ◌++◌, length, map, Option, Some, Ok}
+use Rattle.std.specs.Prelude.{◌≡◌, ℕ, ℤ, ◌≤◌, ◌<◌, ◌↔◌, Bool, true, false, List, ◌++◌, length, map, Option, Some, Ok}
 use Rattle.comp_graph.specs.Dags.{degree}
 use Rattle.comp_graph.specs.Graphs.{GraphParts, IsGraph, dag_of}
 use Rattle.comp_graph.specs.Games.{GameParts, game_of}
 use Rattle.pebble_rules.specs.declared.moves.Move.{Move}
-use Rattle.pebble_rules.specs.FirstBound.{first_bound}
 use Rattle.pebble_rules.specs.Rules.{start, IsComplete, cost as moves_cost}
 use Rattle.normal_steps.specs.Plans.{PlanParts}
 use Rattle.normal_steps.specs.Steps.{total_cost}
 use Rattle.first_plan.specs.FirstPlan.{first_steps}
+use Rattle.search_laws.specs.Search.{Search, searched, rows_of}
 use Rattle.slot_alloc.specs.PlanCode.{plan_code}
 use Rattle.scratch_machine.specs.declared.code.OutWord.{OutWord}
 use Rattle.scratch_machine.specs.Codes.{CodeParts, IsCode}
@@ -21,14 +21,17 @@ use Rattle.kernel_ast.specs.Labels.{labels_of}
 use Rattle.kernel_ast.specs.Meaning.{outputs as source_outputs}
 use Rattle.plan_report.specs.declared.facts.Facts.{Facts}
 use Rattle.plan_report.specs.ReportText.{report_text}
-use Rattle.potential_cert.specs.Table.{IsSupport, IsValid, TableParts}
+use Rattle.potential_cert.specs.declared.tables.Row.{Row}
+use Rattle.potential_cert.specs.GameTables.{IsTableOf}
+use Rattle.potential_cert.specs.Table.{IsSupport, TableParts}
 use Rattle.potential_cert.specs.TableBytes.{IsSpelling}
+use Rattle.potential_cert.specs.TableLaws.{HaveSameMembers}
 use Rattle.scratch_code.specs.CodeText.{code_text}
 use Rattle.pebble_cli.specs.declared.commands.Planning.{Planning}
 use Rattle.pebble_cli.specs.declared.status.Status.{Status}
 use Rattle.pebble_cli.specs.declared.status.Status.TheVariants.{Optimal, Open}
 use Rattle.pebble_cli.specs.Accepted.{IsAccepted}
-use Rattle.pebble_cli.specs.PlayedGames.{game_parts, played_on}
+use Rattle.pebble_cli.specs.PlayedGames.{game_asked, played_for}
 
 -- the printed numbers: the first plan's cost, the cost of the code and the lower bound, all in transfers, and the number of expanded
 -- positions; whether the verdict is Optimal; and the code
@@ -40,17 +43,25 @@ pub record PrintedPlan : Type 0 where
   pub optimal : Bool
   pub code : CodeParts
 
--- what the first plan of a graph with this many slots costs, the finish counted
-abbrev pub first_cost : GraphParts → ℕ → ℕ
-first_cost graph slots = total_cost (played_on graph slots) (start (played_on graph slots)) (first_steps (played_on graph slots))
-
 -- the first plan of a game
 abbrev pub first_plan_of : GameParts → PlanParts
 first_plan_of game = record { game = game; steps = first_steps (game_of game); total = total_cost (game_of game) (start (game_of game)) (first_steps (game_of game)) }
 
--- what it costs to store the outputs that are no inputs and to load the inputs that a live vertex reads; with weights of 1 their number
-abbrev pub bound_of : GameParts → ℕ
-bound_of game = first_bound (game_of game)
+-- the search that is asked for: of the game on the graph, from its first plan, with the budget of positions
+abbrev pub search_asked : Planning → GraphParts → Search
+search_asked asked graph = searched (played_for asked graph) (first_steps (played_for asked graph)) asked.budget
+
+-- the plan that it finds, which is the first plan where it finds none that costs less
+abbrev pub plan_asked : Planning → GraphParts → PlanParts
+plan_asked asked graph = record {
+  game = game_asked asked graph;
+  steps = (search_asked asked graph).plan;
+  total = total_cost (played_for asked graph) (start (played_for asked graph)) (search_asked asked graph).plan;
+}
+
+-- the rows that it makes: the expanded positions with their costs
+abbrev pub rows_asked : Planning → GraphParts → List Row
+rows_asked asked graph = rows_of (search_asked asked graph).entries
 
 -- On these values of the inputs the run of the code meets no empty slot or word, gives the outputs of the source, and makes this many
 -- loads and stores.
@@ -61,30 +72,36 @@ pub record RunsRight (kernel : KernelParts) (code : CodeParts) (count : ℕ) (va
   pub counted : transfers ending ≡ count
 
 -- there is a complete pebbling of this cost that the code plays, by the rules of the game
-pub record PlaysPebbling (graph : GraphParts) (slots : ℕ) (code : CodeParts) (count : ℕ) : Type 0 where
+pub record PlaysPebbling (game : GameParts) (code : CodeParts) (count : ℕ) : Type 0 where
   pub moves : List Move
-  pub complete : IsComplete (played_on graph slots) (start (played_on graph slots)) moves
-  pub costs : moves_cost (played_on graph slots) moves ≡ count
-  pub plays : CodePlays graph code moves
+  pub complete : IsComplete (game_of game) (start (game_of game)) moves
+  pub costs : moves_cost (game_of game) moves ≡ count
+  pub plays : CodePlays game.graph code moves
 
--- The plan answers a kernel with this graph, with this many slots and this budget of positions.
-pub record IsAnswer (kernel : KernelParts) (graph : GraphParts) (slots budget : ℕ) (plan : PrintedPlan) : Type 0 where
-  -- the printed cost of the first plan is its cost, the answered plan is the first one, and the code is that of its steps
-  pub first : plan.first ≡ first_cost graph slots
-  pub cost : plan.cost ≡ plan.first
-  pub code : plan.code ≡ plan_code (first_plan_of (game_parts graph slots))
-  -- the bound is the support of a table without rows, which is valid with it: it counts the outputs that are no inputs and the inputs
-  -- that a live vertex reads; no position is expanded
-  pub bound : plan.bound ≡ bound_of (game_parts graph slots)
-  pub support : IsSupport (played_on graph slots) [] plan.cost plan.bound
-  pub valid : IsValid (played_on graph slots) [] plan.bound
-  pub expanded : plan.expanded ≡ 0
-  -- Optimal exactly where the bound is the cost; else as many positions as the budget were expanded, and the bound is below the cost
+-- The plan and its table answer a kernel with this graph, with the slots and the budget of positions that are asked for.
+pub record IsAnswer (kernel : KernelParts) (graph : GraphParts) (asked : Planning) (plan : PrintedPlan) (table : TableParts) : Type 0 where
+  -- the printed cost of the first plan is its cost, and the answered plan costs no more
+  pub first : plan.first ≡ (first_plan_of (game_asked asked graph)).total
+  pub no_more : plan.cost ≤ plan.first
+  -- the table has the numbers of the graph, the slots and the weights, and its rows strictly rise; it has the bound, with which it is valid,
+  -- and as many rows as positions were expanded
+  pub tabled : IsTableOf (played_for asked graph) table
+  pub bound : table.bound ≡ plan.bound
+  pub expanded : length table.rows ≡ plan.expanded
+  -- the rows with their costs are those of the search, and the plan is the one that it finds: by its cost, and by the code of its steps
+  pub rows : HaveSameMembers (rows_asked asked graph) table.rows
+  pub cost : plan.cost ≡ (plan_asked asked graph).total
+  pub code : plan.code ≡ plan_code (plan_asked asked graph)
+  -- the bound is the support of the rows and the cost
+  pub support : IsSupport (played_for asked graph) table.rows plan.cost plan.bound
+  -- no more positions than the budget were expanded; Optimal exactly where the bound is the cost; else as many positions as the budget
+  -- were expanded, and the bound is below the cost
+  pub few : plan.expanded ≤ asked.budget
   pub is_optimal : (plan.optimal ≡ true) ↔ (plan.bound ≡ plan.cost)
-  pub is_open : (plan.optimal ≡ false) ↔ ((plan.expanded ≡ budget) × (plan.bound < plan.cost))
+  pub is_open : (plan.optimal ≡ false) ↔ ((plan.expanded ≡ asked.budget) × (plan.bound < plan.cost))
   -- the code has these slots, names no slot or word that it has not, and has the labels of the kernel's input and output elements,
   -- in order of declaration and row by row
-  pub code_slots : plan.code.slots ≡ slots
+  pub code_slots : plan.code.slots ≡ asked.slots
   pub code_bounds : IsCode plan.code
   pub code_inputs : plan.code.inputs ≡ labels_of Input kernel.decls
   pub code_outputs : map (λ (o : OutWord). o.label) plan.code.outputs ≡ labels_of Output kernel.decls
@@ -92,58 +109,36 @@ pub record IsAnswer (kernel : KernelParts) (graph : GraphParts) (slots budget : 
   -- loads and stores as the cost
   pub right : (values : List ℤ) → length values ≡ length (labels_of Input kernel.decls) → RunsRight kernel plan.code plan.cost values
   -- the code plays a complete pebbling of its cost, so an operation never writes over the slot of an operand
-  pub played : PlaysPebbling graph slots plan.code plan.cost
+  pub played : PlaysPebbling (game_asked asked graph) plan.code plan.cost
   -- no complete pebbling costs less than the bound, whatever it computes again, drops or moves in vain
-  pub lowest : (moves : List Move) → IsComplete (played_on graph slots) (start (played_on graph slots)) moves → plan.bound ≤ moves_cost (played_on graph slots) moves
-
--- the first plan as an answer, with no position expanded
-abbrev pub first_answer : GameParts → PrintedPlan
-first_answer game = record {
-  first = (first_plan_of game).total;
-  cost = (first_plan_of game).total;
-  bound = bound_of game;
-  expanded = 0;
-  optimal = bound_of game == (first_plan_of game).total;
-  code = plan_code (first_plan_of game);
-}
+  pub lowest : (moves : List Move) → IsComplete (played_for asked graph) (start (played_for asked graph)) moves → plan.bound ≤ moves_cost (played_for asked graph) moves
 
 -- the values of the report's lines
-abbrev pub facts_of : GraphParts → ℕ → ℕ → PrintedPlan → Facts
-facts_of graph slots budget plan = record {
+abbrev pub facts_of : GraphParts → Planning → PrintedPlan → Facts
+facts_of graph asked plan = record {
   vertices = length graph.nodes;
   inputs = length graph.names;
   degree = degree (dag_of graph);
-  slots = slots;
+  slots = asked.slots;
   first = plan.first;
   cost = plan.cost;
   bound = plan.bound;
   expanded = plan.expanded;
-  budget = budget;
+  budget = asked.budget;
   optimal = plan.optimal;
 }
 
 -- the report and then the code
-abbrev pub plan_text : List ℕ → GraphParts → ℕ → ℕ → PrintedPlan → List ℕ
-plan_text title graph slots budget plan = report_text title (facts_of graph slots budget plan) ++ code_text plan.code
+abbrev pub plan_text : List ℕ → GraphParts → Planning → PrintedPlan → List ℕ
+plan_text title graph asked plan = report_text title (facts_of graph asked plan) ++ code_text plan.code
 
 -- the status of a verdict
 abbrev pub verdict_status : Bool → Status
 verdict_status true = Optimal
 verdict_status false = Open
 
--- the table of a game with this bound and no rows
-abbrev pub rowless_table : GameParts → ℕ → TableParts
-rowless_table game bound = record {
-  slots = game.slots;
-  vertices = length game.graph.nodes;
-  load = game.weights.load;
-  store = game.weights.store;
-  bound = bound;
-  rows = [];
-}
-
--- The text is accepted, there are more slots than the degree of its graph, a plan answers it, the status is its verdict, the report and
--- the code of that plan are printed, and the bytes of its table are written.
+-- The text is accepted, there are more slots than the degree of its graph, a plan with a table answers it, the status is its verdict, the
+-- report and the code of that plan are printed, and the bytes of that table are written.
 pub record IsPlanned (asked : Planning) (text : List ℕ) (status : Status) (printed : List ℕ) (table : Option (List ℕ)) : Type 0 where
   pub kernel : KernelParts
   pub graph : GraphParts
@@ -151,9 +146,10 @@ pub record IsPlanned (asked : Planning) (text : List ℕ) (status : Status) (pri
   pub valid : IsGraph graph
   pub room : degree (dag_of graph) < asked.slots
   pub plan : PrintedPlan
-  pub answer : IsAnswer kernel graph asked.slots asked.budget plan
+  pub table_parts : TableParts
+  pub answer : IsAnswer kernel graph asked plan table_parts
   pub ends : status ≡ verdict_status plan.optimal
-  pub report : printed ≡ plan_text kernel.title graph asked.slots asked.budget plan
+  pub report : printed ≡ plan_text kernel.title graph asked plan
   pub bytes : List ℕ
   pub written : table ≡ Some bytes
-  pub spelled : IsSpelling bytes (rowless_table (game_parts graph asked.slots) plan.bound)
+  pub spelled : IsSpelling bytes table_parts

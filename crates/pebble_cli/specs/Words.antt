@@ -36,13 +36,19 @@ abbrev pub run_command : List ℕ → Option Command
 run_command [] = None
 run_command (c ∷ values) = Some Run
 
--- the command that the words spell: `plan S TABLE BUDGET` with 1 to 64 slots and the budget 0, `run VALUES`, or `graph` (this project's
--- convention); `file_word` gives the name of TABLE or VALUES
+-- the budget of a plan that names none
+abbrev pub default_budget : ℕ
+default_budget = 20000
+
+-- the command that the words spell: `plan S TABLE` with 1 to 64 slots, which may name a budget from 0 to 150,000 too, `run VALUES`, or
+-- `graph` (this project's convention); `file_word` gives the name of TABLE or VALUES
 abbrev pub command : List (List ℕ) → Option Command
 command (name ∷ []) = if bytes_eq name (codes "graph") then Some Graph else None
 command (name ∷ values ∷ []) = if bytes_eq name (codes "run") then run_command values else None
+command (name ∷ slots ∷ table ∷ []) =
+    if bytes_eq name (codes "plan") then plan_command (number 1 64 slots) table (Some default_budget) else None
 command (name ∷ slots ∷ table ∷ budget ∷ []) =
-    if bytes_eq name (codes "plan") then plan_command (number 1 64 slots) table (number 0 0 budget) else None
+    if bytes_eq name (codes "plan") then plan_command (number 1 64 slots) table (number 0 150000 budget) else None
 command _ = None
 
 -- the command that the program's words spell
@@ -71,6 +77,6 @@ file_named_by words = file_word (map string_bytes words)
 
 -- the numbers of a command are in range
 abbrev pub IsInLimits : Command → Type 0
-IsInLimits (Plan asked) = (1 ≤ asked.slots) × (asked.slots ≤ 64) × (asked.budget ≤ 0)
+IsInLimits (Plan asked) = (1 ≤ asked.slots) × (asked.slots ≤ 64) × (asked.budget ≤ 150000)
 IsInLimits Run = Unit {0}
 IsInLimits Graph = Unit {0}

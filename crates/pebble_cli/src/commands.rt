@@ -16,7 +16,7 @@ pub enum Command {
 pub struct Planning {
     /// The number of slots, from 1 to 64.
     pub slots: u16,
-    /// The number of positions that may be expanded. It is 0 for now.
+    /// The number of positions that may be expanded, from 0 to 150,000.
     pub budget: u32,
 }
 

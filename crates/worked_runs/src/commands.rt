@@ -223,8 +223,9 @@ fn a_file_that_is_missing(rt: HostRuntime) -> Result<(), Fail> {
 }
 
 /// Words, a kernel, and the status over a desk on which no call fails, and whose file holds `5`.
-const HONEST: [(&str, &str, Status); 8] = [
-    ("plan 2 t 0", P, Status::Optimal),
+const HONEST: [(&str, &str, Status); 9] = [
+    ("plan 2 t", P, Status::Optimal),
+    ("plan 3 t 1", CHAIN, Status::Open),
     ("plan 1 t 0", P, Status::TooSmall),
     ("plan 3 t 0", CHAIN, Status::Open),
     ("run v", CHAIN, Status::Done),

@@ -7,3 +7,5 @@ mod commands;
 mod outputs;
 #[cfg(test)]
 mod plans;
+#[cfg(test)]
+mod searches;

@@ -9,9 +9,9 @@ use std::test::Fail as TestFail;
 /// The kernel y = x + 1.
 const P: &str = "kernel p { in x; out y; y = x + 1; }";
 
-/// What `plan 2 t 0` prints of it.
+/// What `plan 2 t` prints of it.
 const P_PRINTED: &str =
-    "; kernel p\n; vertices 2\n; inputs 1\n; degree 1\n; slots 2\n; first 2\n; cost 2\n; bound 2\n; expanded 0\n; budget 0\n; verdict Optimal\nslots 2\nwords 2\nin x\nout y 1\nload 0 0\nadd 1 s0 #1\nstore 1 1\nend\n";
+    "; kernel p\n; vertices 2\n; inputs 1\n; degree 1\n; slots 2\n; first 2\n; cost 2\n; bound 2\n; expanded 0\n; budget 20000\n; verdict Optimal\nslots 2\nwords 2\nin x\nout y 1\nload 0 0\nadd 1 s0 #1\nstore 1 1\nend\n";
 
 /// And the table that it writes.
 const P_TABLE: [u8; 18] = [82, 66, 80, 84, 0, 1, 0, 2, 0, 2, 0, 0, 0, 2, 0, 0, 0, 0];
@@ -31,7 +31,7 @@ struct Row {
 
 const ROWS: [Row; 11] = [
     Row {
-        words: "plan 2 t 0",
+        words: "plan 2 t",
         kernel: P,
         status: Status::Optimal,
         printed: P_PRINTED,
@@ -94,7 +94,7 @@ const ROWS: [Row; 11] = [
         table: &[82, 66, 80, 84, 0, 1, 0, 3, 0, 2, 0, 0, 0, 3, 0, 0, 0, 0],
     },
     Row {
-        words: "plan 1 t 0",
+        words: "plan 1 t",
         kernel: P,
         status: Status::TooSmall,
         printed: "too small needs 2\n",
@@ -130,13 +130,13 @@ fn check_row(rt: &impl Abort, alloc: Global, row: Row) -> Result<(), TestFail> {
 
 /// Words that spell no command.
 const USAGES: [&str; 16] = [
-    "plan 0 t 0",
-    "plan 02 t 0",
+    "plan 0 t",
+    "plan 02 t",
     "plan 65 t 0",
     "plan 2 t 00",
-    "plan 2 t 1",
+    "plan 2 t 020000",
     "plan 2 t 150001",
-    "plan 2 t",
+    "plan 2 t 4294967296",
     "plan 2",
     "plan 2 t 0 0",
     "trial 201 3 t",
@@ -238,7 +238,7 @@ fn check_failure(
     fail: Option<Fail>,
     wanted: Failure,
 ) -> Result<(), TestFail> {
-    let words = words_of(alloc, "plan 2 t 0")?;
+    let words = words_of(alloc, "plan 2 t")?;
     let mut fails = Vec::new(alloc);
     if let Some(fail) = fail {
         fails.push(fail)?;

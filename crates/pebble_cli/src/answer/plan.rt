@@ -1,60 +1,71 @@
 //! The answer of `plan`.
-ghost use Rattle.std.specs.Prelude.{◌≡◌, ◌≢◌, ◌⊎◌, ◌<◌, ◌≤◌, ◌++◌, ℕ, List, IfOk, Err};
-ghost use Rattle.comp_graph.specs.Games.{IsGame, unit_weights};
+ghost use Rattle.std.specs.Prelude.{◌≡◌, ◌≢◌, ◌⊎◌, ◌<◌, ◌≤◌, ◌^◌, ◌++◌, ℕ, List, length, IfOk, Err, Some};
+ghost use Rattle.desk_io.specs.Known.{file_items};
 ghost use Rattle.kernel_ast.specs.KernelParts.{KernelParts};
+ghost use Rattle.normal_steps.specs.Plans.{IsPlan};
 ghost use Rattle.plan_report.specs.ReportText.{report_text};
-ghost use Rattle.potential_cert.specs.TableBytes.{IsSpelling};
+ghost use Rattle.potential_cert.specs.TableBytes.{IsInRange, IsSpelling};
 ghost use Rattle.scratch_code.specs.CodeText.{code_text};
 ghost use Rattle.slot_alloc.specs.PlanCode.{plan_code};
 ghost use Rattle.pebble_cli.specs.Accepted.{IsAccepted};
-ghost use Rattle.pebble_cli.specs.MadeAnswers.{Meets, IfAnswer};
-ghost use Rattle.pebble_cli.specs.PlanAnswers.{IsPlanned, facts_of, first_answer, first_plan_of, rowless_table, verdict_status};
+ghost use Rattle.pebble_cli.specs.MadeAnswers.{Meets, IfAnswer, is_optimal, printed_of};
+ghost use Rattle.pebble_cli.specs.PlanAnswers.{IsPlanned, facts_of, plan_text, verdict_status};
+ghost use Rattle.pebble_cli.specs.PlayedGames.{game_asked};
 ghost use Rattle.pebble_cli.specs.Refusals.{IsTooSmall};
 
 use super::too_small::played_game;
 use super::{Answer, EarlyEnd};
 use crate::commands::Planning;
 use crate::status::Status;
+use branch_bound::{Found, Verdict, search};
 use comp_graph::{Game, Graph, Label, NoMemory};
 use first_plan::first;
 use normal_steps::Plan;
 use plan_report::{Facts, report};
-use potential_cert::{Table, support, write_table};
+use potential_cert::write_table;
 use scratch_code::write_code;
 use slot_alloc::emit;
 use std::alloc::Global;
 
-// The status of a verdict.
-fn status_of(optimal: bool) -> Status
-    ensures { result ≡ verdict_status optimal }
+// Whether the verdict is Optimal.
+fn is_optimal(verdict: Verdict) -> bool
+    ensures { result ≡ is_optimal verdict }
 {
-    if optimal {
-        Status::Optimal
-    } else {
-        Status::Open
+    match verdict {
+        Verdict::Optimal => true,
+        Verdict::Open => false,
     }
 }
 
-// The values of the report's lines for the first plan of a game, with no position expanded.
-fn facts_of_plan<'g>(game: &Game, plan: &Plan<'g>, budget: u32) -> Facts
-    requires first { plan.now ≡ first_plan_of game.now }
-    ensures value { result ≡ facts_of game.now.graph game.now.slots budget (first_answer game.now) }
-    ensures valid { IsGame game.now }
+// The status of a verdict.
+fn status_of(verdict: Verdict) -> Status
+    ensures { result ≡ verdict_status (is_optimal verdict) }
+{
+    match verdict {
+        Verdict::Optimal => Status::Optimal,
+        Verdict::Open => Status::Open,
+    }
+}
+
+// The values of the report's lines for what a search found.
+fn facts_of_found<'g>(game: &Game, found: &Found<'g>, asked: Planning) -> Facts
+    requires game { game.now ≡ game_asked asked game.now.graph }
+    requires few { length found.now.table.rows < 2 ^ 32 }
+    ensures value { result ≡ facts_of game.now.graph asked (printed_of found.now) }
+    ensures valid { IsPlan found.now.plan }
 {
     let graph = game.graph();
-    let cost = plan.total();
-    let bound = support(game, &[], cost);
     Facts {
         vertices: graph.len(),
         inputs: graph.inputs(),
         degree: graph.degree(),
         slots: game.slots(),
-        first: cost,
-        cost,
-        bound,
-        expanded: 0,
-        budget,
-        optimal: bound == cost,
+        first: found.first_cost,
+        cost: found.plan.total(),
+        bound: found.table.bound,
+        expanded: found.table.rows.len() as u32,
+        budget: asked.budget,
+        optimal: is_optimal(found.verdict),
     }
 }
 
@@ -75,44 +86,50 @@ fn plan_text<'g>(
     Ok(text)
 }
 
-// The bytes of the table of a game with this bound and no rows.
-fn table_bytes(alloc: Global, game: &Game, bound: u32) -> Result<Vec<u8>, NoMemory>
-    ensures { IfOk result (λ bytes. IsSpelling bytes.items (rowless_table game.now bound)) }
+// The answer by what a search found: the verdict, the report and the code, and the table.
+fn found_answer<'g>(
+    alloc: Global,
+    game: &Game,
+    found: &Found<'g>,
+    asked: Planning,
+) -> Result<Answer, NoMemory>
+    requires game { game.now ≡ game_asked asked game.now.graph }
+    requires table { IsInRange found.now.table }
+    ensures plan { IsPlan found.now.plan }
+    ensures status { IfOk result (λ answer. answer.status ≡ verdict_status (is_optimal found.now.verdict)) }
+    ensures text { IfOk result (λ answer.
+        answer.text.items ≡ plan_text game.now.graph.title game.now.graph asked (printed_of found.now)) }
+    ensures table { IfOk result (λ answer. (bytes : List ℕ)
+        × (file_items answer.table ≡ Some bytes) × IsSpelling bytes found.now.table) }
 {
-    let table = Table {
-        slots: game.slots(),
-        vertices: game.graph().len(),
-        weights: game.weights(),
-        bound,
-        rows: Vec::new(alloc),
-    };
-    write_table(alloc, &table)
-}
-
-// The answer to a kernel with enough slots: the verdict, the report and the code, and the table.
-fn planned(alloc: Global, game: &Game, asked: Planning) -> Result<Answer, NoMemory>
-    requires slots { game.now.slots ≡ asked.slots }
-    requires unit { game.now.weights ≡ unit_weights }
-    requires no_budget { asked.budget ≡ 0 }
-    ensures { IfOk result (λ answer. (text : List ℕ) (kernel : KernelParts) →
-        IsAccepted text kernel game.now.graph → Meets (IsPlanned asked text) answer) }
-{
-    let plan = first(alloc, game)?;
-    let facts = facts_of_plan(game, &plan, asked.budget);
-    let text = plan_text(alloc, game.graph().title(), &plan, &facts)?;
-    let table = table_bytes(alloc, game, facts.bound)?;
+    let facts = facts_of_found(game, found, asked);
+    let text = plan_text(alloc, game.graph().title(), &found.plan, &facts)?;
+    let table = write_table(alloc, &found.table)?;
     Ok(Answer {
-        status: status_of(facts.optimal),
+        status: status_of(found.verdict),
         text,
         table: Some(table),
     })
+}
+
+// The answer to a kernel with enough slots, by the search from its first plan.
+fn planned(alloc: Global, game: &Game, asked: Planning) -> Result<Answer, NoMemory>
+    requires game { game.now ≡ game_asked asked game.now.graph }
+    requires budget { asked.budget ≤ 150000 }
+    ensures { IfOk result (λ answer. (text : List ℕ) (kernel : KernelParts) →
+        IsAccepted text kernel game.now.graph → Meets (IsPlanned asked text) answer) }
+{
+    let _slots = game.slots();
+    let first = first(alloc, game)?;
+    let found = search(alloc, first, asked.budget)?;
+    found_answer(alloc, game, &found, asked)
 }
 
 /// The answer of `plan` to an accepted kernel by its graph: that more slots are needed, or a plan.
 pub fn plan_answer(alloc: Global, graph: Graph, asked: Planning) -> Result<Answer, EarlyEnd>
     requires some { 0 < asked.slots }
     requires few { asked.slots ≤ 64 }
-    requires no_budget { asked.budget ≡ 0 }
+    requires budget { asked.budget ≤ 150000 }
     ensures answers { (text : List ℕ) (kernel : KernelParts) → IsAccepted text kernel graph →
         IfAnswer result (λ answer. Meets (IsTooSmall asked.slots text) answer ⊎ Meets (IsPlanned asked text) answer) }
     ensures no_fault { result ≢ Err EarlyEnd.ReadFault }

@@ -8,7 +8,10 @@ use crate::commands::{Command, Planning};
 const MOST_SLOTS: u32 = 64;
 
 /// The greatest budget.
-const MOST_BUDGET: u32 = 0;
+const MOST_BUDGET: u32 = 150_000;
+
+/// The budget of a plan that names none.
+const DEFAULT_BUDGET: u32 = 20_000;
 
 // Whether each byte is an ASCII digit.
 fn are_digits(bytes: &[u8]) -> bool
@@ -53,8 +56,9 @@ fn number(low: u32, high: u32, word: &str) -> Option<u32>
     }
 }
 
-/// The command that the words spell: `plan S TABLE 0`, with S from 1 to 64 in plain decimal and TABLE any word that is not empty; `run
-/// VALUES`, with VALUES any word that is not empty; or `graph`. All other words spell none.
+/// The command that the words spell: `plan S TABLE` or `plan S TABLE BUDGET`, with S from 1 to 64 and BUDGET from 0 to 150,000 in plain
+/// decimal and TABLE any word that is not empty; `run VALUES`, with VALUES any word that is not empty; or `graph`. All other words spell
+/// none. Without a BUDGET it is 20,000.
 pub fn command(words: &[String]) -> Option<Command>
     ensures value { result ≡ asked_by words.now }
     ensures limits { IfSome result IsInLimits }
@@ -62,7 +66,8 @@ pub fn command(words: &[String]) -> Option<Command>
     match words {
         [name] => graph_command(name.as_str()),
         [name, values] => run_command(name.as_str(), values.as_str()),
-        [name, slots, table, budget] => plan_command(
+        [name, slots, table] => plan_command(name.as_str(), slots.as_str(), table.as_str()),
+        [name, slots, table, budget] => budgeted_plan_command(
             name.as_str(),
             slots.as_str(),
             table.as_str(),
@@ -95,8 +100,23 @@ fn run_command(name: &str, values: &str) -> Option<Command>
     Some(Command::Run)
 }
 
+// The command of three words.
+fn plan_command(name: &str, slots: &str, table: &str) -> Option<Command>
+    ensures value { result ≡ command (name.now ∷ slots.now ∷ table.now ∷ []) }
+    ensures limits { IfSome result IsInLimits }
+{
+    if name != "plan" || table.is_empty() {
+        return None;
+    }
+    let slots = number(1, MOST_SLOTS, slots)?;
+    Some(Command::Plan(Planning {
+        slots: slots as u16,
+        budget: DEFAULT_BUDGET,
+    }))
+}
+
 // The command of four words.
-fn plan_command(name: &str, slots: &str, table: &str, budget: &str) -> Option<Command>
+fn budgeted_plan_command(name: &str, slots: &str, table: &str, budget: &str) -> Option<Command>
     ensures value { result ≡ command (name.now ∷ slots.now ∷ table.now ∷ budget.now ∷ []) }
     ensures limits { IfSome result IsInLimits }
 {

@@ -14,12 +14,16 @@ fn words(alloc: Global, line: &str) -> Result<Vec<String>, AllocError> {
 
 #[test]
 fn commands(rt: HostRuntime) -> Result<(), Fail> {
-    let plan = words(rt.alloc(), "plan 2 t 0")?;
-    let asked = Command::Plan(Planning {
-        slots: 2,
-        budget: 0,
-    });
-    assert_eq!(rt; command(&plan), Some(asked));
+    let plans = [
+        ("plan 2 t", 2, 20000),
+        ("plan 1 t 0", 1, 0),
+        ("plan 64 t 150000", 64, 150000),
+    ];
+    for (line, slots, budget) in plans {
+        let plan = words(rt.alloc(), line)?;
+        let asked = Command::Plan(Planning { slots, budget });
+        assert_eq!(rt; command(&plan), Some(asked));
+    }
     let run = words(rt.alloc(), "run v")?;
     assert_eq!(rt; command(&run), Some(Command::Run));
     let graph = words(rt.alloc(), "graph")?;
@@ -29,8 +33,11 @@ fn commands(rt: HostRuntime) -> Result<(), Fail> {
         "plan 02 t 0",
         "plan 65 t 0",
         "plan +2 t 0",
-        "plan 2 t 1",
-        "plan 2 t",
+        "plan 2 t 150001",
+        "plan 2 t 01",
+        "plan 2 t 0 0",
+        "plan 2",
+        "plan 2 ",
         "plan 2  0",
         "check 2 t 0",
         "run",

@@ -1,5 +1,5 @@
 -- The laws are lemmas.
-use Rattle.pebble_cli.proofs.CommandLaws.{plan_statuses, plans_are_answered, optimal_where_tight, open_where_loose}
+use Rattle.pebble_cli.proofs.CommandLaws.{plan_statuses, plans_are_answered, optimal_where_tight, open_where_loose, optimal_where_enough}
 use Rattle.pebble_cli.proofs.laws.plan.plan_answers.Goals as goal
 
 pub returns-clause-statuses : goal.returns-clause-statuses
@@ -13,3 +13,6 @@ returns-clause-optimal c = optimal_where_tight
 
 pub returns-clause-opened : goal.returns-clause-opened
 returns-clause-opened c = open_where_loose
+
+pub returns-clause-enough : goal.returns-clause-enough
+returns-clause-enough c = optimal_where_enough

@@ -1,15 +1,8 @@
 -- Words of another number spell no command.
-use Rattle.std.proofs.Common.{◌≡◌, ◌≤◌, ◌<◌, ℕ, List, [], ◌∷◌, None, length, map, string_bytes, refl, arith}
+use Rattle.std.proofs.Common.{◌≡◌, ◌≤◌, ℕ, List, [], ◌∷◌, None, length, map, string_bytes, refl, arith}
 use Rattle.std.proofs.lemmas.List.{length-map}
 use Rattle.pebble_cli.specs.Words.{command}
 use Rattle.pebble_cli.proofs.words.read.command.Goals as goal
-
-three : (words : List (List ℕ)) → 3 ≤ length words → length words < 4 → None ≡ command words
-three [] few most = absurd (omega arith)
-three (a ∷ []) few most = absurd (omega arith)
-three (a ∷ b ∷ []) few most = absurd (omega arith)
-three (a ∷ b ∷ c ∷ []) few most = refl
-three (a ∷ b ∷ c ∷ d ∷ more) few most = absurd (omega arith)
 
 five : (words : List (List ℕ)) → 5 ≤ length words → None ≡ command words
 five [] few = absurd (omega arith)
@@ -21,10 +14,5 @@ five (a ∷ b ∷ c ∷ d ∷ e ∷ more) few = refl
 
 pub returns-in_default-2-clause-value : goal.returns-in_default-2-clause-value
 returns-in_default-2-clause-value c =
-    let same = length-map c.args.words.now string_bytes in
-    three (map string_bytes c.args.words.now) (omega (arith, same, c.in_default.len_at_least)) (omega (arith, same, c.in_default.len_below))
-
-pub returns-in_default-3-clause-value : goal.returns-in_default-3-clause-value
-returns-in_default-3-clause-value c =
     let same = length-map c.args.words.now string_bytes in
     five (map string_bytes c.args.words.now) (omega (arith, same, c.in_default.len_at_least))
