@@ -12,7 +12,6 @@ use Rattle.loop_unroll.specs.declared.flat.ShapeEnd.{ShapeEnd}
 use Rattle.loop_unroll.specs.declared.flat.ShapeEnd.TheVariants as shape
 use Rattle.pebble_cli.specs.declared.kernel.KernelEnd.{KernelEnd}
 use Rattle.pebble_cli.specs.declared.kernel.KernelEnd.TheVariants.{Fault, NoMemory}
-
 -- a text is accepted where it stands for a kernel that has a graph
 pub use Rattle.kernel_parser.specs.Accepted.{IsAccepted}
 

@@ -120,6 +120,7 @@ facts_of graph asked plan = record {
   inputs = length graph.names;
   degree = degree (dag_of graph);
   slots = asked.slots;
+  weights = (game_asked asked graph).weights;
   first = plan.first;
   cost = plan.cost;
   bound = plan.bound;

@@ -60,6 +60,7 @@ fn facts_of_found<'g>(game: &Game, found: &Found<'g>, asked: Planning) -> Facts
         inputs: graph.inputs(),
         degree: graph.degree(),
         slots: game.slots(),
+        weights: game.weights(),
         first: found.first_cost,
         cost: found.plan.total(),
         bound: found.table.bound,
