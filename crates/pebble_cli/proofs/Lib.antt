@@ -1,15 +1,22 @@
 -- What the proofs of this crate share.
 pub mod Accepting
 pub mod AnswerLaws
+pub mod CodeInputs
 pub mod CommandLaws
 pub mod Delivering
+pub mod ExecKept
+pub mod ExecLaws
+pub mod Executing
 pub mod FirstPlans
 pub mod GraphKept
 pub mod KernelAnswers
+pub mod KernelLabels
 pub mod LastAnswers
 pub mod PlanKept
+pub mod PlanTexts
 pub mod RunKept
 pub mod Running
 pub mod SubjectAnswers
 pub mod ToldBytes
+pub mod ValuesFiles
 pub mod WordLimits

@@ -14,7 +14,7 @@ use Rattle.pebble_cli.specs.declared.commands.Command.TheVariants.{Plan}
 use Rattle.pebble_cli.specs.declared.commands.Planning.{Planning}
 use Rattle.pebble_cli.specs.declared.status.Status.{Status}
 use Rattle.pebble_cli.specs.Accepted.{IsAccepted}
-use Rattle.pebble_cli.specs.Answers.{IsAdmitted, kernel_with_room}
+use Rattle.pebble_cli.specs.Answers.{IsAdmitted, kernel_with_room, code_input}
 use Rattle.pebble_cli.specs.PlanAnswers.{IsPlanned, first_answer, first_cost, first_plan_of, bound_of, plan_text, rowless_table, verdict_status}
 use Rattle.pebble_cli.specs.PlayedGames.{game_parts}
 use Rattle.pebble_cli.specs.Status.{is_last}
@@ -126,6 +126,7 @@ some asked input file limits (kernel_with_room text e h) =
       answer = subst (λ t. IsPlanned asked t (verdict_status (first_answer g).optimal) (plan_text g.graph.title g.graph g.slots asked.budget (first_answer g))
           (Some (table_bytes (rowless_table g (bound_of g))))) same planned;
     }
+some asked input file limits (code_input code is h) = absurd (cc)
 
 pub plan_kept : (asked : Planning) → AreKept (Plan asked)
 plan_kept asked = record {
