@@ -1,4 +1,5 @@
 -- What the proofs of this crate share.
+pub mod EarlyEnds
 pub mod Accepting
 pub mod AnswerLaws
 pub mod CodeInputs

@@ -4,6 +4,7 @@ use Rattle.pebble_cli.specs.declared.answer.EarlyEnd.TheVariants.{NoMemory}
 use Rattle.pebble_cli.specs.MadeAnswers.{Meets}
 use Rattle.pebble_cli.specs.PlanAnswers.{IsPlanned}
 use Rattle.pebble_cli.specs.Refusals.{IsTooSmall}
+use Rattle.pebble_cli.proofs.EarlyEnds.{is_this_error}
 use Rattle.pebble_cli.proofs.KernelAnswers.{refused_answers, no_answer}
 use Rattle.pebble_cli.proofs.answer.plan.plan_answer.Goals as goal
 
@@ -16,7 +17,7 @@ returns-in_err-game-clause-answers c = λ text kernel accepted.
 
 pub returns-in_err-planned-clause-answers : goal.returns-in_err-planned-clause-answers
 returns-in_err-planned-clause-answers c = λ text kernel accepted.
-    let is : c.from_residual-in_err-planned.result ≡ Err NoMemory = search rules in
+    let is : c.from_residual-in_err-planned.result ≡ Err NoMemory = is_this_error _ _ c.from_residual-in_err-planned.ensures.1 in
     no_answer c.from_residual-in_err-planned.result _ is
 
 pub returns-clause-answers : goal.returns-clause-answers
