@@ -1,6 +1,7 @@
 #!/bin/sh
-# Measures the program on the largest kernels: of 256 vertices, of 65,536 bytes, and of 65,533 turns. Prints the mean time of a run and,
-# where /usr/bin/time tells it, the most memory of one. It checks nothing and is no part of the gate. PEBBLE names another program.
+# Measures the program on the largest kernels: of 256 vertices, of 65,536 bytes, and of 65,533 turns; and on code of 150,000 operations, which
+# is more than any plan has. Prints the mean time of a run and, where /usr/bin/time tells it, the most memory of one. It checks nothing and
+# is no part of the gate. PEBBLE names another program.
 here=$(CDPATH= cd -- "$(dirname -- "$0")/.." && pwd) || exit 1
 pebble=${PEBBLE:-$here/pebble}
 runs=${RUNS:-20}
@@ -35,7 +36,26 @@ most_turns() {
     echo 'c = 0; for j in 0..10750 { c = c + 1; } }'
 }
 
-# Runs the program with these words on the kernel, named first, and prints what it took.
+# 64 loads, 150,000 operations with three operands, of which one is a constant of 19 digits, and a store: about 5.7 MB.
+most_operations() {
+    awk 'BEGIN {
+        print "slots 64"; print "words 256"; print "in x"; print "out y 255"
+        for (k = 0; k < 64; k++) print "load " k " 0"
+        for (k = 0; k < 150000; k++) print "mad " k % 64 " s" (k * 7 + 3) % 64 " #-9223372036854775807 s" (k * 5 + 1) % 64
+        print "store 0 255"; print "end"
+    }'
+}
+
+# As many of the shortest operations as a text of 20,000,000 bytes can have.
+most_lines() {
+    awk 'BEGIN {
+        print "slots 1"; print "words 1"; print "in x"; print "out y 0"; print "load 0 0"
+        for (k = 0; k < 2222217; k++) print "neg 0 s0"
+        print "end"
+    }'
+}
+
+# Runs the program with these words on the kernel or the code, named first, and prints what it took.
 measure() {
     name=$1
     shift
@@ -65,3 +85,7 @@ most_turns >"$folder/kernel"
 measure most_turns run "$folder/values"
 measure most_turns graph
 measure most_turns plan 3 "$folder/table" 0
+most_operations >"$folder/kernel"
+measure most_operations exec "$folder/values"
+most_lines >"$folder/kernel"
+measure most_lines exec "$folder/values"

@@ -1,6 +1,7 @@
 #!/bin/sh
-# Plans each kernel of kernels/ with three numbers of slots, prints its graph and runs it on some values, and checks the report, the code,
-# the table, the outputs, the graph and the exit statuses against tools/run_code.py, and docs/KERNELS.md and the tests of
+# Plans each kernel of kernels/ with three numbers of slots, prints its graph, and runs it and its code on ten lists of values. Checks the
+# report, the code, the table, the outputs, the graph and the exit statuses against tools/run_code.py, the outputs of `run` against those of
+# `exec` and, where there is a gcc, of the code as a C function (tools/code_to_c.py), and docs/KERNELS.md and the tests of
 # crates/worked_kernels against the kernels. The exit status is 0 where all agrees, or where there is no python3 to check with. PEBBLE
 # names another program than the one at the top of the repository.
 here=$(CDPATH= cd -- "$(dirname -- "$0")/.." && pwd) || exit 1
@@ -14,6 +15,31 @@ fi
 folder=$(mktemp -d) || exit 1
 trap 'rm -rf "$folder"' EXIT
 
+# Says that something of a kernel differs.
+differs() {
+    echo "$1"
+    result=1
+}
+
+# Compiles the code in the file `code` to the program `compiled`, or leaves none where there is no gcc.
+compile() {
+    command -v gcc >/dev/null 2>&1 || return 0
+    python3 "$here/tools/code_to_c.py" kernel main <"$folder/code" >"$folder/kernel.c" &&
+        gcc -std=c11 -O1 -o "$folder/compiled" "$folder/kernel.c"
+}
+
+# Runs a kernel, its code, and its code in C on a list of values, and compares what they print.
+run_on() {
+    python3 "$run_code" values "$1" "$2" >"$folder/values"
+    "$pebble" run "$folder/values" <"$1" >"$folder/output"
+    python3 "$run_code" outputs "$1" "$folder/values" "$folder/output" "$?" || result=1
+    "$pebble" exec "$folder/values" <"$folder/code" >"$folder/executed" || differs "$1: exec ends with another status than 0 on list $2"
+    { cat "$folder/output" && sed -n 's/^; cost /; transfers /p' "$folder/code"; } >"$folder/wanted"
+    cmp -s "$folder/executed" "$folder/wanted" || differs "$1: exec and run differ on list $2"
+    [ ! -x "$folder/compiled" ] || "$folder/compiled" <"$folder/values" | cmp -s - "$folder/output" ||
+        differs "$1: the code in C and run differ on list $2"
+}
+
 python3 "$run_code" document "$here/docs/KERNELS.md" "$here"/kernels/*.kernel || result=1
 python3 "$run_code" gallery "$here/crates/worked_kernels/src/gallery" "$here"/kernels/*.kernel || result=1
 for kernel in "$here"/kernels/*.kernel; do
@@ -23,13 +49,14 @@ for kernel in "$here"/kernels/*.kernel; do
         status=$?
         python3 "$run_code" check "$kernel" "$folder/output" "$folder/table" "$slots" "$status" || result=1
         rm -f "$folder/table"
+        [ "$slots" != "${sizes%% *}" ] || mv "$folder/output" "$folder/code"
     done
     "$pebble" graph <"$kernel" >"$folder/output"
     python3 "$run_code" graph "$kernel" "$folder/output" "$?" || result=1
-    for vector in 3 4 7; do
-        python3 "$run_code" values "$kernel" "$vector" >"$folder/values"
-        "$pebble" run "$folder/values" <"$kernel" >"$folder/output"
-        python3 "$run_code" outputs "$kernel" "$folder/values" "$folder/output" "$?" || result=1
+    rm -f "$folder/compiled"
+    compile || differs "$kernel: its code gives no C program"
+    for vector in 0 1 2 3 4 5 6 7 8 9; do
+        run_on "$kernel" "$vector"
     done
 done
 exit "${result:-0}"

@@ -5,20 +5,23 @@ use Rattle.comp_graph.specs.Dags.{degree}
 use Rattle.comp_graph.specs.Graphs.{GraphParts, dag_of}
 use Rattle.kernel_ast.specs.KernelParts.{KernelParts}
 use Rattle.pebble_cli.specs.declared.commands.Command.{Command}
-use Rattle.pebble_cli.specs.declared.commands.Command.TheVariants.{Plan, Run, Graph}
+use Rattle.pebble_cli.specs.declared.commands.Command.TheVariants.{Plan, Run, Exec, Graph}
 use Rattle.pebble_cli.specs.declared.commands.Subject.{Subject}
-use Rattle.pebble_cli.specs.declared.commands.Subject.TheVariants.{InputKernel}
+use Rattle.pebble_cli.specs.declared.commands.Subject.TheVariants.{InputKernel, InputCode}
 use Rattle.pebble_cli.specs.declared.status.Status.{Status}
-use Rattle.pebble_cli.specs.declared.status.Status.TheVariants.{Usage, Kernel, TooSmall, ReadFault, WriteFault, NoMemory}
+use Rattle.pebble_cli.specs.declared.status.Status.TheVariants.{Usage, Kernel, TooSmall, ReadFault, WriteFault, NoMemory, Code}
 use Rattle.pebble_cli.specs.Accepted.{IsAccepted, IsKernelFault}
-use Rattle.pebble_cli.specs.Answers.{Answers, usage, faulty_kernel, too_few_slots, last_answer, LastAnswers, IsAdmitted, kernel_with_room, HasRoom}
-use Rattle.pebble_cli.specs.AnswerLaws.{OneAnswer, SomeAnswer, NoFaultIsAnAnswer, TablesAreOfWriters, UsageOnly, UsageAlways, KernelOnly, KernelAlways, TooSmallOnly, TooSmallAlways, LastOnly, LastAlways}
+use Rattle.pebble_cli.specs.Answers.{Answers, usage, faulty_kernel, no_code, too_few_slots, last_answer, LastAnswers, IsAdmitted, kernel_with_room, code_input, HasRoom}
+use Rattle.pebble_cli.specs.AnswerLaws.{OneAnswer, SomeAnswer, NoFaultIsAnAnswer, TablesAreOfWriters, UsageOnly, UsageAlways, KernelOnly, KernelAlways, CodeOnly, CodeAlways, TooSmallOnly, TooSmallAlways, LastOnly, LastAlways}
+use Rattle.pebble_cli.specs.CodeInputs.{IsCodeFault, IsNoCode, code_fault_text}
 use Rattle.pebble_cli.specs.Commands.{subject, slots_of, kernel_text, reads_file, writes_file}
 use Rattle.pebble_cli.specs.Faults.{IsFileTold}
 use Rattle.pebble_cli.specs.Refusals.{IsUsage, IsFaulty, IsTooSmall, usage_text, kernel_fault_text, too_small_text}
 use Rattle.pebble_cli.specs.Status.{is_last}
 use Rattle.pebble_cli.specs.Words.{command, IsInLimits}
 use Rattle.pebble_cli.proofs.Accepting.{accepted_once, accepted_or_fault, no_fault_of_accepted}
+use Rattle.pebble_cli.proofs.CodeInputs.{no_fault_of_code, code_or_fault}
+use Rattle.pebble_cli.proofs.ExecKept.{exec_kept}
 use Rattle.pebble_cli.proofs.GraphKept.{graph_kept}
 use Rattle.pebble_cli.proofs.LastAnswers.{HasLast, AreKept}
 use Rattle.pebble_cli.proofs.PlanKept.{plan_kept}
@@ -30,6 +33,7 @@ use Rattle.pebble_cli.proofs.WordLimits.{words_are_in_limits}
 pub last_kept : (asked : Command) → AreKept asked
 last_kept (Plan asked) = plan_kept asked
 last_kept Run = run_kept
+last_kept Exec = exec_kept
 last_kept Graph = graph_kept
 
 -- ---- the answers of one command
@@ -37,6 +41,7 @@ last_kept Graph = graph_kept
 -- the kinds of answers of a command
 pub data Kinds (asked : Command) (input : List ℕ) (file : Option (Option (List ℕ))) (status : Status) (printed : List ℕ) (table : Option (List ℕ)) : Type 0 where
   faulty : (text : List ℕ) → kernel_text (subject asked) input ≡ Some text → IsFaulty text status printed table → Kinds asked input file status printed table
+  not_code : subject asked ≡ InputCode → IsNoCode input status printed table → Kinds asked input file status printed table
   small : (text : List ℕ) (slots : ℕ) → kernel_text (subject asked) input ≡ Some text → slots_of asked ≡ Some slots → IsTooSmall slots text status printed table
       → Kinds asked input file status printed table
   last : LastAnswers asked input file status printed table → Kinds asked input file status printed table
@@ -48,6 +53,9 @@ kind_of {command} asked {input} {file} {status} {printed} {table} is (usage none
 kind_of {command} asked {input} {file} {status} {printed} {table} is (faulty_kernel other text other_is e k) =
     let same : other ≡ asked = cc in
     subst (λ a. Kinds a input file status printed table) same (faulty text e k)
+kind_of {command} asked {input} {file} {status} {printed} {table} is (no_code other other_is e k) =
+    let same : other ≡ asked = cc in
+    subst (λ a. Kinds a input file status printed table) same (not_code e k)
 kind_of {command} asked {input} {file} {status} {printed} {table} is (too_few_slots other text slots other_is e has k) =
     let same : other ≡ asked = cc in
     subst (λ a. Kinds a input file status printed table) same (small text slots e has k)
@@ -65,10 +73,21 @@ one_degree text k j g h a b = ap (λ x. degree (dag_of x)) (accepted_once text k
 one_text : {X : Option (List ℕ)} {a b : List ℕ} → X ≡ Some a → X ≡ Some b → b ≡ a
 one_text first second = cc
 
+-- a code is no kernel
+no_kernel : {X : Type 0} (s : Subject) (input text : List ℕ) → s ≡ InputCode → kernel_text s input ≡ Some text → X
+no_kernel InputKernel input text is e = absurd (cc)
+no_kernel InputCode input text is e = absurd (cc)
+
 -- a kernel with a fault is not admitted
 fault_refuses : (asked : Command) (input text : List ℕ) (code at : ℕ) → kernel_text (subject asked) input ≡ Some text → IsKernelFault text code at → IsAdmitted asked input → ⊥
 fault_refuses asked input text code at is fault (kernel_with_room other other_is h) =
     no_fault_of_accepted text h.kernel h.graph code at (subst (λ t. IsAccepted t h.kernel h.graph) (one_text is other_is) h.accepted) fault
+fault_refuses asked input text code at is fault (code_input c other_is h) = no_kernel (subject asked) input text other_is is
+
+-- nor is an input that is no code, where the command works on code
+code_refuses : (asked : Command) (input : List ℕ) (line : ℕ) → subject asked ≡ InputCode → IsCodeFault input line → IsAdmitted asked input → ⊥
+code_refuses asked input line is fault (kernel_with_room text other_is h) = no_kernel (subject asked) input text is other_is
+code_refuses asked input line is fault (code_input c other_is h) = no_fault_of_code input c line h fault
 
 -- nor is one with too few slots
 few_refuse : (asked : Command) (input text : List ℕ) (slots : ℕ) (kernel : KernelParts) (graph : GraphParts) → kernel_text (subject asked) input ≡ Some text
@@ -77,6 +96,7 @@ few_refuse asked input text slots kernel graph is has accepted few (kernel_with_
     let room = h.room slots has in
     let same = one_degree text kernel h.kernel graph h.graph accepted (subst (λ t. IsAccepted t h.kernel h.graph) (one_text is other_is) h.accepted) in
     omega (arith, room, few, same)
+few_refuse asked input text slots kernel graph is has accepted few (code_input c other_is h) = no_kernel (subject asked) input text other_is is
 
 -- a kernel with too few slots has no fault
 few_has_no_fault : (asked : Command) (input text other : List ℕ) (code at : ℕ) (kernel : KernelParts) (graph : GraphParts) → kernel_text (subject asked) input ≡ Some text
@@ -89,16 +109,26 @@ few_has_no_fault asked input text other code at kernel graph is other_is fault a
 to_fault : (asked : Command) (input text : List ℕ) (file : Option (Option (List ℕ))) (code at : ℕ) (status : Status) (printed : List ℕ) (table : Option (List ℕ))
     → kernel_text (subject asked) input ≡ Some text → IsKernelFault text code at → Kinds asked input file status printed table → status ≡ Kernel
 to_fault asked input text file code at status printed table is fault (faulty other other_is k) = k.ends
+to_fault asked input text file code at status printed table is fault (not_code other_is k) = no_kernel (subject asked) input text other_is is
 to_fault asked input text file code at status printed table is fault (small other slots other_is has k) =
     absurd (few_has_no_fault asked input text other code at k.kernel k.graph is other_is fault k.accepted)
 to_fault asked input text file code at status printed table is fault (last k) =
     absurd (fault_refuses asked input text code at is fault ((last_kept asked).each input file status printed table k).admitted)
+
+to_code : (asked : Command) (input : List ℕ) (file : Option (Option (List ℕ))) (line : ℕ) (status : Status) (printed : List ℕ) (table : Option (List ℕ))
+    → subject asked ≡ InputCode → IsCodeFault input line → Kinds asked input file status printed table → status ≡ Code
+to_code asked input file line status printed table is fault (faulty text other_is k) = no_kernel (subject asked) input text is other_is
+to_code asked input file line status printed table is fault (not_code other_is k) = k.ends
+to_code asked input file line status printed table is fault (small text slots other_is has k) = no_kernel (subject asked) input text is other_is
+to_code asked input file line status printed table is fault (last k) =
+    absurd (code_refuses asked input line is fault ((last_kept asked).each input file status printed table k).admitted)
 
 to_small : (asked : Command) (input text : List ℕ) (file : Option (Option (List ℕ))) (slots : ℕ) (kernel : KernelParts) (graph : GraphParts) (status : Status) (printed : List ℕ) (table : Option (List ℕ))
     → kernel_text (subject asked) input ≡ Some text → slots_of asked ≡ Some slots → IsAccepted text kernel graph → slots ≤ degree (dag_of graph)
     → Kinds asked input file status printed table → status ≡ TooSmall
 to_small asked input text file slots kernel graph status printed table is has accepted few (faulty other other_is k) =
     absurd (few_has_no_fault asked input other text k.code k.at kernel graph other_is is k.fault accepted)
+to_small asked input text file slots kernel graph status printed table is has accepted few (not_code other_is k) = no_kernel (subject asked) input text other_is is
 to_small asked input text file slots kernel graph status printed table is has accepted few (small other others other_is others_has k) = k.ends
 to_small asked input text file slots kernel graph status printed table is has accepted few (last k) =
     absurd (few_refuse asked input text slots kernel graph is has accepted few ((last_kept asked).each input file status printed table k).admitted)
@@ -106,6 +136,7 @@ to_small asked input text file slots kernel graph status printed table is has ac
 pub to_last : (asked : Command) (input : List ℕ) (file : Option (Option (List ℕ))) (status : Status) (printed : List ℕ) (table : Option (List ℕ))
     → IsAdmitted asked input → Kinds asked input file status printed table → LastAnswers asked input file status printed table
 to_last asked input file status printed table admitted (faulty text is k) = absurd (fault_refuses asked input text k.code k.at is k.fault admitted)
+to_last asked input file status printed table admitted (not_code is k) = absurd (code_refuses asked input k.at is k.fault admitted)
 to_last asked input file status printed table admitted (small text slots is has k) = absurd (few_refuse asked input text slots k.kernel k.graph is has k.accepted k.small admitted)
 to_last asked input file status printed table admitted (last k) = k
 
@@ -114,6 +145,7 @@ to_last asked input file status printed table admitted (last k) = k
 one_kind : (asked : Command) (input : List ℕ) (file : Option (Option (List ℕ))) (s t : Status) (p q : List ℕ) (a b : Option (List ℕ)) → (is_last s ≡ true → IsFileTold (Some asked) file)
     → Kinds asked input file s p a → Kinds asked input file t q b → s ≡ t
 one_kind asked input file s t p q a b told (faulty text is k) other = k.ends ∙ sym (to_fault asked input text file k.code k.at t q b is k.fault other)
+one_kind asked input file s t p q a b told (not_code is k) other = k.ends ∙ sym (to_code asked input file k.at t q b is k.fault other)
 one_kind asked input file s t p q a b told (small text slots is has k) other =
     k.ends ∙ sym (to_small asked input text file slots k.kernel k.graph t q b is has k.accepted k.small other)
 one_kind asked input file s t p q a b told (last k) other =
@@ -125,6 +157,7 @@ pub to_usage : {command : Option Command} {input : List ℕ} {file : Option (Opt
     → command ≡ None → Answers command input file status printed table → IsUsage status printed table
 to_usage is (usage none k) = k
 to_usage is (faulty_kernel other text other_is e k) = absurd (cc)
+to_usage is (no_code other other_is e k) = absurd (cc)
 to_usage is (too_few_slots other text slots other_is e has k) = absurd (cc)
 to_usage is (last_answer other other_is k) = absurd (cc)
 
@@ -154,6 +187,7 @@ both_are first second = sym first ∙ second
 pub usage_only : UsageOnly
 usage_only command input file status printed table (usage none k) at = (none, k)
 usage_only command input file status printed table (faulty_kernel asked text is e k) at = let both = both_are k.ends at in absurd (cc)
+usage_only command input file status printed table (no_code asked is e k) at = let both = both_are k.ends at in absurd (cc)
 usage_only command input file status printed table (too_few_slots asked text slots is e has k) at = let both = both_are k.ends at in absurd (cc)
 usage_only command input file status printed table (last_answer asked is k) at = last_is_not status Usage at (own_last asked input file status printed table k) refl
 
@@ -163,6 +197,7 @@ usage_always input file = usage refl (record { ends = refl; line = refl; none = 
 pub kernel_only : KernelOnly
 kernel_only command input file status printed table (usage none k) at = let both = both_are k.ends at in absurd (cc)
 kernel_only command input file status printed table (faulty_kernel asked text is e k) at = (asked, text, is, e, k)
+kernel_only command input file status printed table (no_code asked is e k) at = let both = both_are k.ends at in absurd (cc)
 kernel_only command input file status printed table (too_few_slots asked text slots is e has k) at = let both = both_are k.ends at in absurd (cc)
 kernel_only command input file status printed table (last_answer asked is k) at = last_is_not status Kernel at (own_last asked input file status printed table k) refl
 
@@ -170,9 +205,20 @@ pub kernel_always : KernelAlways
 kernel_always asked input text file code at is fault =
     faulty_kernel asked text refl is (record { code = code; at = at; fault = fault; ends = refl; line = refl; none = refl })
 
+pub code_only : CodeOnly
+code_only command input file status printed table (usage none k) at = let both = both_are k.ends at in absurd (cc)
+code_only command input file status printed table (faulty_kernel asked text is e k) at = let both = both_are k.ends at in absurd (cc)
+code_only command input file status printed table (no_code asked is e k) at = (asked, is, e, k)
+code_only command input file status printed table (too_few_slots asked text slots is e has k) at = let both = both_are k.ends at in absurd (cc)
+code_only command input file status printed table (last_answer asked is k) at = last_is_not status Code at (own_last asked input file status printed table k) refl
+
+pub code_always : CodeAlways
+code_always asked input file line is fault = no_code asked refl is (record { at = line; fault = fault; ends = refl; line = refl; none = refl })
+
 pub too_small_only : TooSmallOnly
 too_small_only command input file status printed table (usage none k) at = let both = both_are k.ends at in absurd (cc)
 too_small_only command input file status printed table (faulty_kernel asked text is e k) at = let both = both_are k.ends at in absurd (cc)
+too_small_only command input file status printed table (no_code asked is e k) at = let both = both_are k.ends at in absurd (cc)
 too_small_only command input file status printed table (too_few_slots asked text slots is e has k) at = (asked, text, slots, is, e, has, k)
 too_small_only command input file status printed table (last_answer asked is k) at = last_is_not status TooSmall at (own_last asked input file status printed table k) refl
 
@@ -180,6 +226,7 @@ too_small_only command input file status printed table (last_answer asked is k) 
 some_slots : (asked : Command) (slots : ℕ) → IsInLimits asked → slots_of asked ≡ Some slots → 0 < slots
 some_slots (Plan asked) slots limits has = let same : asked.slots ≡ slots = cc in omega (arith, limits.0, same)
 some_slots Run slots limits has = absurd (cc)
+some_slots Exec slots limits has = absurd (cc)
 some_slots Graph slots limits has = absurd (cc)
 
 pub too_small_always : TooSmallAlways
@@ -190,6 +237,7 @@ too_small_always asked input text file slots kernel graph limits is has accepted
 pub last_only : LastOnly
 last_only command input file status printed table (usage none k) at = last_is_not status Usage k.ends at refl
 last_only command input file status printed table (faulty_kernel asked text is e k) at = last_is_not status Kernel k.ends at refl
+last_only command input file status printed table (no_code asked is e k) at = last_is_not status Code k.ends at refl
 last_only command input file status printed table (too_few_slots asked text slots is e has k) at = last_is_not status TooSmall k.ends at refl
 last_only command input file status printed table (last_answer asked is k) at =
     (asked, is, ((last_kept asked).each input file status printed table k).admitted, k)
@@ -206,6 +254,7 @@ no_fault_at status other s a b c = (λ e. a (sym s ∙ e), (λ e. b (sym s ∙ e
 pub no_fault : NoFaultIsAnAnswer
 no_fault command input file status printed table (usage none k) = no_fault_at status Usage k.ends (λ e. cc) (λ e. cc) (λ e. cc)
 no_fault command input file status printed table (faulty_kernel asked text is e k) = no_fault_at status Kernel k.ends (λ e. cc) (λ e. cc) (λ e. cc)
+no_fault command input file status printed table (no_code asked is e k) = no_fault_at status Code k.ends (λ e. cc) (λ e. cc) (λ e. cc)
 no_fault command input file status printed table (too_few_slots asked text slots is e has k) = no_fault_at status TooSmall k.ends (λ e. cc) (λ e. cc) (λ e. cc)
 no_fault command input file status printed table (last_answer asked is k) =
     let last = own_last asked input file status printed table k in
@@ -216,6 +265,7 @@ no_fault command input file status printed table (last_answer asked is k) =
 pub tables_are_of_writers : TablesAreOfWriters
 tables_are_of_writers command input file status printed table (usage none k) at = k.none
 tables_are_of_writers command input file status printed table (faulty_kernel asked text is e k) at = k.none
+tables_are_of_writers command input file status printed table (no_code asked is e k) at = k.none
 tables_are_of_writers command input file status printed table (too_few_slots asked text slots is e has k) at = k.none
 tables_are_of_writers command input file status printed table (last_answer asked is k) (inl idle) =
     ((last_kept asked).each input file status printed table k).untold (sym (ap writes_file is) ∙ idle)
@@ -226,6 +276,7 @@ tables_are_of_writers command input file status printed table (last_answer asked
 pub refused_without_table : (asked : Command) (input : List ℕ) (file : Option (Option (List ℕ))) (status : Status) (printed : List ℕ) (table : Option (List ℕ))
     → (IsAdmitted asked input → ⊥) → Kinds asked input file status printed table → table ≡ None
 refused_without_table asked input file status printed table not (faulty text is k) = k.none
+refused_without_table asked input file status printed table not (not_code is k) = k.none
 refused_without_table asked input file status printed table not (small text slots is has k) = k.none
 refused_without_table asked input file status printed table not (last k) = absurd (not ((last_kept asked).each input file status printed table k).admitted)
 
@@ -237,14 +288,6 @@ no_answer_without_file asked input status printed table reads admitted kind =
     absurd (((last_kept asked).each input (Some None) status printed table answer).held reads refl)
 
 -- ---- some answer
-
--- what a command gets of its subject
-record HasText (subject : Subject) (input : List ℕ) : Type 0 where
-  text : List ℕ
-  is : kernel_text subject input ≡ Some text
-
-text_of : (subject : Subject) (input : List ℕ) → HasText subject input
-text_of InputKernel input = record { text = input; is = refl }
 
 -- an answer
 abbrev HasAnswer : Option Command → List ℕ → Option (Option (List ℕ)) → Type 0
@@ -266,17 +309,29 @@ by_slots asked input text file kernel graph (Some slots) limits there is accepte
   | inr few ↦ (TooSmall, too_small_text (degree (dag_of graph) + 1), None, too_small_always asked input text file slots kernel graph limits is has accepted (omega (arith, few)))
 ]
 
-by_subject : (asked : Command) (input : List ℕ) (file : Option (Option (List ℕ))) → IsInLimits asked → (reads_file (Some asked) ≡ true → file ≡ Some None → ⊥)
-    → HasText (subject asked) input → HasAnswer (Some asked) input file
-by_subject asked input file limits there h = elim (accepted_or_fault h.text) [
-  | inl a ↦ by_slots asked input h.text file a.0 a.1 (slots_of asked) limits there h.is a.2 refl
-  | inr f ↦ (Kernel, kernel_fault_text f.0 f.1, None, kernel_always asked input h.text file f.0 f.1 h.is f.2)
+by_text : (asked : Command) (input text : List ℕ) (file : Option (Option (List ℕ))) → IsInLimits asked → (reads_file (Some asked) ≡ true → file ≡ Some None → ⊥)
+    → kernel_text (subject asked) input ≡ Some text → HasAnswer (Some asked) input file
+by_text asked input text file limits there is = elim (accepted_or_fault text) [
+  | inl a ↦ by_slots asked input text file a.0 a.1 (slots_of asked) limits there is a.2 refl
+  | inr f ↦ (Kernel, kernel_fault_text f.0 f.1, None, kernel_always asked input text file f.0 f.1 is f.2)
 ]
+
+by_code : (asked : Command) (input : List ℕ) (file : Option (Option (List ℕ))) → IsInLimits asked → (reads_file (Some asked) ≡ true → file ≡ Some None → ⊥)
+    → subject asked ≡ InputCode → HasAnswer (Some asked) input file
+by_code asked input file limits there is = elim (code_or_fault input) [
+  | inl c ↦ from_last asked input file ((last_kept asked).some input file limits there (code_input c.0 is c.1))
+  | inr f ↦ (Code, code_fault_text f.0, None, code_always asked input file f.0 is f.1)
+]
+
+by_subject : (asked : Command) (input : List ℕ) (file : Option (Option (List ℕ))) (s : Subject) → IsInLimits asked → (reads_file (Some asked) ≡ true → file ≡ Some None → ⊥)
+    → subject asked ≡ s → HasAnswer (Some asked) input file
+by_subject asked input file InputKernel limits there is = by_text asked input input file limits there (ap (λ s. kernel_text s input) is)
+by_subject asked input file InputCode limits there is = by_code asked input file limits there is
 
 by_words : (found : Option Command) (input : List ℕ) (file : Option (Option (List ℕ))) → ((asked : Command) → found ≡ Some asked → IsInLimits asked)
     → (reads_file found ≡ true → file ≡ Some None → ⊥) → HasAnswer found input file
 by_words None input file limits there = (Usage, usage_text, None, usage_always input file)
-by_words (Some asked) input file limits there = by_subject asked input file (limits asked refl) there (text_of (subject asked) input)
+by_words (Some asked) input file limits there = by_subject asked input file (subject asked) (limits asked refl) there refl
 
 pub some_answer : SomeAnswer
 some_answer words input file there = by_words (command words) input file (words_are_in_limits words) there

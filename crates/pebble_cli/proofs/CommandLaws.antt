@@ -25,7 +25,7 @@ use Rattle.pebble_cli.specs.PlayedGames.{played_for}
 use Rattle.pebble_cli.specs.RunAnswers.{Runs, IsValued, IsWrongValues}
 use Rattle.pebble_cli.specs.RunLaws.{RunStatuses, DoneWhereValues, ValuesWhereNone}
 use Rattle.pebble_cli.proofs.Accepting.{accepted_graph}
-use Rattle.pebble_cli.proofs.AnswerLaws.{Kinds, faulty, small, last, kind_of, to_last}
+use Rattle.pebble_cli.proofs.AnswerLaws.{Kinds, faulty, not_code, small, last, kind_of, to_last}
 use Rattle.pebble_cli.proofs.FoundPlans.{first_finishes, found_no_worse}
 use Rattle.pebble_cli.proofs.GraphKept as to_graph
 use Rattle.pebble_cli.proofs.PlanKept as to_plan
@@ -44,6 +44,7 @@ plan_statuses asked input file status printed table h = by_kind (kind_of (Plan a
     by_kind : Kinds (Plan asked) input file status printed table
         → (status ≡ Kernel) ⊎ ((status ≡ TooSmall) ⊎ (((status ≡ Optimal) ⊎ (status ≡ Open)) × IsPlanned asked input status printed table))
     by_kind (faulty text is k) = inl k.ends
+    by_kind (not_code is k) = absurd (cc)
     by_kind (small text slots is has k) = inr (inl k.ends)
     by_kind (last k) = inr (inr (verdict_is k.plan.optimal k.ends, k))
 
@@ -106,6 +107,7 @@ run_statuses input file status printed table h = by_kind (kind_of Run refl h)
     by_kind : Kinds Run input file status printed table
         → (status ≡ Kernel) ⊎ (((status ≡ Done) × IsValued input file status printed table) ⊎ ((status ≡ Values) × IsWrongValues input file status printed table))
     by_kind (faulty text is k) = inl k.ends
+    by_kind (not_code is k) = absurd (cc)
     by_kind (small text slots is has k) = absurd (cc)
     by_kind (last (inl k)) = inr (inl (k.ends, k))
     by_kind (last (inr k)) = inr (inr (k.ends, k))
@@ -137,6 +139,7 @@ graph_statuses input file status printed table h = by_kind (kind_of Graph refl h
   where
     by_kind : Kinds Graph input file status printed table → (status ≡ Kernel) ⊎ ((status ≡ Done) × IsDrawn input status printed table)
     by_kind (faulty text is k) = inl k.ends
+    by_kind (not_code is k) = absurd (cc)
     by_kind (small text slots is has k) = absurd (cc)
     by_kind (last k) = inr (k.ends, k)
 

@@ -15,7 +15,7 @@ use Rattle.pebble_cli.specs.Deliver.{CutShort, TableCut, TextCut, SameWriteFault
 use Rattle.pebble_cli.specs.Faults.{ReadCause, of_input, of_file}
 use Rattle.pebble_cli.specs.PlanAnswers.{IsPlanned}
 use Rattle.pebble_cli.specs.Status.{is_last, IsOfRead, IsYielded}
-use Rattle.pebble_cli.proofs.AnswerLaws.{Kinds, faulty, small, last, kind_of}
+use Rattle.pebble_cli.proofs.AnswerLaws.{Kinds, faulty, not_code, small, last, kind_of}
 
 -- ---- writes
 
@@ -147,5 +147,6 @@ verdict_of_plan command asked input file status printed table is h verdict = by_
 
     by_kind : Kinds (Plan asked) input file status printed table → Verdict
     by_kind (faulty text e k) = neither Kernel k.ends (λ e. cc) (λ e. cc) verdict
+    by_kind (not_code e k) = absurd (cc)
     by_kind (small text slots e has k) = neither TooSmall k.ends (λ e. cc) (λ e. cc) verdict
     by_kind (last k) = (_, subst (λ t. IsPlanned asked input status printed t) k.written k, k.written)

@@ -7,7 +7,7 @@ use Rattle.pebble_cli.specs.declared.commands.Command.TheVariants.{Graph}
 use Rattle.pebble_cli.specs.declared.status.Status.{Status}
 use Rattle.pebble_cli.specs.declared.status.Status.TheVariants.{Done}
 use Rattle.pebble_cli.specs.Accepted.{IsAccepted}
-use Rattle.pebble_cli.specs.Answers.{IsAdmitted, kernel_with_room}
+use Rattle.pebble_cli.specs.Answers.{IsAdmitted, kernel_with_room, code_input}
 use Rattle.pebble_cli.specs.GraphAnswers.{IsDrawn}
 use Rattle.pebble_cli.specs.Status.{is_last}
 use Rattle.pebble_cli.proofs.LastAnswers.{IsKept, HasLast, AreKept}
@@ -34,6 +34,7 @@ some input file (kernel_with_room text e h) =
       table = None;
       answer = record { kernel = h.kernel; graph = h.graph; accepted = subst (λ t. IsAccepted t h.kernel h.graph) same h.accepted; ends = refl; lines = refl; none = refl };
     }
+some input file (code_input code is h) = absurd (cc)
 
 pub graph_kept : AreKept Graph
 graph_kept = record {

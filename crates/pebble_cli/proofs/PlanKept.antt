@@ -11,7 +11,7 @@ use Rattle.pebble_cli.specs.declared.commands.Command.TheVariants.{Plan}
 use Rattle.pebble_cli.specs.declared.commands.Planning.{Planning}
 use Rattle.pebble_cli.specs.declared.status.Status.{Status}
 use Rattle.pebble_cli.specs.Accepted.{IsAccepted}
-use Rattle.pebble_cli.specs.Answers.{IsAdmitted, kernel_with_room}
+use Rattle.pebble_cli.specs.Answers.{IsAdmitted, kernel_with_room, code_input}
 use Rattle.pebble_cli.specs.PlanAnswers.{IsPlanned, plan_asked, rows_asked, plan_text, verdict_status}
 use Rattle.pebble_cli.specs.PlanLaws.{IsBoundAsked}
 use Rattle.pebble_cli.specs.PlayedGames.{game_asked, played_for}
@@ -121,6 +121,7 @@ some asked input file limits (kernel_with_room text e h) =
       table = last.table;
       answer = subst (λ t. IsPlanned asked t last.status last.printed last.table) same last.answer;
     }
+some asked input file limits (code_input code is h) = absurd (cc)
 
 pub plan_kept : (asked : Planning) → AreKept (Plan asked)
 plan_kept asked = record {

@@ -1,7 +1,5 @@
 -- The last answers of `run`: one to each accepted kernel and each file that is there.
-use Rattle.std.proofs.Common.{◌≡◌, ◌⊎◌, ℕ, ℤ, ◌≤◌, List, [], length, Option, Some, None, inl, inr, refl, sym, ap, ◌∙◌, subst, arith}
-use Rattle.std.proofs.lemmas.Bool.{cases_eq, cases_lt}
-use Rattle.std.specs.List.{slice_split}
+use Rattle.std.proofs.Common.{◌≡◌, ◌⊎◌, ℕ, ℤ, List, length, Option, Some, None, inl, inr, refl, sym, ap, ◌∙◌, subst}
 use Rattle.comp_graph.specs.Graphs.{GraphParts}
 use Rattle.desk_io.specs.Known.{TellsFile}
 use Rattle.kernel_ast.specs.declared.tree.DeclKind.TheVariants as kinds
@@ -9,23 +7,18 @@ use Rattle.kernel_ast.specs.KernelParts.{KernelParts}
 use Rattle.kernel_ast.specs.Labels.{labels_of}
 use Rattle.kernel_ast.specs.Meaning.{outputs}
 use Rattle.plan_report.specs.OutputsText.{outputs_text}
-use Rattle.values_text.specs.Values.{Spells, is_space}
-use Rattle.values_text.proofs.Parts.{numbers_of, sound, complete, one_list}
 use Rattle.pebble_cli.specs.declared.commands.Command.TheVariants.{Run}
 use Rattle.pebble_cli.specs.declared.status.Status.{Status}
 use Rattle.pebble_cli.specs.declared.status.Status.TheVariants.{Done, Values}
 use Rattle.pebble_cli.specs.Accepted.{IsAccepted}
-use Rattle.pebble_cli.specs.Answers.{IsAdmitted, kernel_with_room}
-use Rattle.pebble_cli.specs.RunAnswers.{Runs, IsValued, IsWrongValues, IsValuesFile, IsNoValuesFile, values_fault_text}
+use Rattle.pebble_cli.specs.Answers.{IsAdmitted, kernel_with_room, code_input}
+use Rattle.pebble_cli.specs.RunAnswers.{Runs, IsValued, IsWrongValues, IsValuesFile, IsNoValuesFile}
 use Rattle.pebble_cli.specs.Status.{is_last}
+use Rattle.pebble_cli.specs.ValuesFiles.{values_fault_text}
 use Rattle.pebble_cli.proofs.Accepting.{accepted_once}
 use Rattle.pebble_cli.proofs.LastAnswers.{IsKept, HasLast, AreKept}
-
--- a file that tells bytes is not missing
-not_missing : (file : Option (Option (List ℕ))) (bytes : List ℕ) → TellsFile file bytes → file ≡ Some None → ⊥
-not_missing None bytes held e = cc
-not_missing (Some None) bytes held e = held
-not_missing (Some (Some known)) bytes held e = cc
+use Rattle.pebble_cli.proofs.ToldBytes.{not_missing, told_bytes, bytes_of}
+use Rattle.pebble_cli.proofs.ValuesFiles.{holds_or_not}
 
 -- an accepted kernel is admitted
 pub admits : (input : List ℕ) (kernel : KernelParts) (graph : GraphParts) → IsAccepted input kernel graph → IsAdmitted Run input
@@ -52,12 +45,6 @@ pub values_of : (text : List ℕ) (k j : KernelParts) (g h : GraphParts) (bytes 
 values_of text k j g h bytes held values a b same given =
     subst (λ z. IsValuesFile j z values) same (subst (λ z. IsValuesFile z bytes values) (accepted_once text k j g h a b).0 given)
 
--- the bytes of a file that is told
-told_bytes : (file : Option (Option (List ℕ))) (held : Option (List ℕ)) (some others : List ℕ) → file ≡ Some held → TellsFile file some → TellsFile file others → some ≡ others
-told_bytes None held some others e a b = absurd cc
-told_bytes (Some None) held some others e a b = absurd a
-told_bytes (Some (Some known)) held some others e a b = sym a ∙ b
-
 -- values are not both there and not there
 clash : {X : Type 0} (text : List ℕ) (file : Option (Option (List ℕ))) (held : Option (List ℕ)) (s t : Status) (p q : List ℕ) (a b : Option (List ℕ))
     → file ≡ Some held → IsValued text file s p a → IsWrongValues text file t q b → X
@@ -77,27 +64,8 @@ once text file held s t p q a b told (inr h) (inr k) = h.ends ∙ sym k.ends
 abbrev Outcome : KernelParts → List ℕ → Type 0
 Outcome kernel bytes = ((values : List ℤ) × IsValuesFile kernel bytes values) ⊎ IsNoValuesFile kernel bytes
 
-by_count : (kernel : KernelParts) (bytes : List ℕ) (values : List ℤ) → length bytes ≤ 1000000 → Spells bytes values → Outcome kernel bytes
-by_count kernel bytes values short spelled = elim (cases_eq (length values) (length (labels_of kinds.Input kernel.decls))) [
-  | inl same ↦ inl (values, record { short = short; spelled = spelled; counted = same })
-  | inr differ ↦ inr (λ others file. differ (ap length (one_list bytes values others spelled file.spelled) ∙ file.counted))
-]
-
-by_numbers : (kernel : KernelParts) (bytes : List ℕ) (found : Option (List ℤ)) → length bytes ≤ 1000000 → numbers_of (slice_split is_space bytes) ≡ found → Outcome kernel bytes
-by_numbers kernel bytes None short e = inr (λ values file. let other = complete values bytes file.spelled in absurd (cc))
-by_numbers kernel bytes (Some values) short e = by_count kernel bytes values short (sound (slice_split is_space bytes) bytes values refl e)
-
 pub values_or_not : (kernel : KernelParts) (bytes : List ℕ) → Outcome kernel bytes
-values_or_not kernel bytes = elim (cases_lt 1000000 (length bytes)) [
-  | inl long ↦ inr (λ values file. let short = file.short in omega (arith, long, short))
-  | inr short ↦ by_numbers kernel bytes (numbers_of (slice_split is_space bytes)) (omega (arith, short)) refl
-]
-
--- the bytes of a file that is not missing
-bytes_of : (file : Option (Option (List ℕ))) → (file ≡ Some None → ⊥) → (bytes : List ℕ) × TellsFile file bytes
-bytes_of None there = ([], tt)
-bytes_of (Some None) there = absurd (there refl)
-bytes_of (Some (Some known)) there = (known, refl)
+values_or_not kernel bytes = holds_or_not (length (labels_of kinds.Input kernel.decls)) bytes
 
 answer_by : (input bytes : List ℕ) (file : Option (Option (List ℕ))) (kernel : KernelParts) (graph : GraphParts) → IsAccepted input kernel graph → TellsFile file bytes
     → Outcome kernel bytes → HasLast Run input file
@@ -119,6 +87,7 @@ some input file there (kernel_with_room text e h) =
     let same : text ≡ input = cc in
     let bytes = bytes_of file there in
     answer_by input bytes.0 file h.kernel h.graph (subst (λ t. IsAccepted t h.kernel h.graph) same h.accepted) bytes.1 (values_or_not h.kernel bytes.0)
+some input file there (code_input code is h) = absurd (cc)
 
 pub run_kept : AreKept Run
 run_kept = record {

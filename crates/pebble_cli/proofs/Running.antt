@@ -1,8 +1,8 @@
 -- What `run` answers to the values of a file.
-use Rattle.std.proofs.Common.{◌≡◌, ◌≤◌, ◌<◌, ℕ, ℤ, List, [], ◌∷◌, ◌++◌, length, map, Option, None, Some, Result, Ok, Err, IfOk, inl, inr, sym, ap, ◌∙◌, subst, arith}
+use Rattle.std.proofs.Common.{◌≡◌, ◌≤◌, ℕ, ℤ, List, length, map, Option, None, Result, Ok, Err, IfOk, inl, inr, sym, ap, ◌∙◌, subst}
 use Rattle.std.specs.Prelude.{Vec}
 use Rattle.std.specs.declared.alloc.Global.{Global}
-use Rattle.std.proofs.lemmas.List.{length-append, length-map}
+use Rattle.std.proofs.lemmas.List.{length-map}
 use Rattle.comp_graph.specs.declared.node.Output.{Output}
 use Rattle.comp_graph.specs.Graphs.{GraphParts}
 use Rattle.desk_io.specs.Known.{TellsFile, TellsMoreFile, file_items}
@@ -14,7 +14,6 @@ use Rattle.plan_report.specs.OutputsText.{outputs_text}
 use Rattle.source_machine.specs.Inputs.{input_count}
 use Rattle.source_machine.specs.RunEnds.{IsRun, IsWrongCount}
 use Rattle.three_address.proofs.KernelGraphLaws.{length-labels_of, outputs-graph_of}
-use Rattle.values_text.specs.Numbers.{number_of}
 use Rattle.values_text.specs.Values.{Spells}
 use Rattle.pebble_cli.specs.declared.answer.Answer.{Answer}
 use Rattle.pebble_cli.specs.declared.answer.FileBytes.{FileBytes}
@@ -23,35 +22,14 @@ use Rattle.pebble_cli.specs.declared.status.Status.{Status}
 use Rattle.pebble_cli.specs.declared.status.Status.TheVariants.{Done, Values}
 use Rattle.pebble_cli.specs.Accepted.{IsAccepted}
 use Rattle.pebble_cli.specs.MadeAnswers.{Meets, IsFileOf}
-use Rattle.pebble_cli.specs.RunAnswers.{Runs, IsNoValuesFile, values_fault_text}
+use Rattle.pebble_cli.specs.RunAnswers.{Runs, IsNoValuesFile}
+use Rattle.pebble_cli.specs.ValuesFiles.{values_fault_text}
 use Rattle.pebble_cli.proofs.Accepting.{accepted_graph, accepted_labels}
 use Rattle.scratch_machine.proofs.GraphValues.{values_exist}
 use Rattle.pebble_cli.proofs.ToldBytes.{told_more_file}
+use Rattle.pebble_cli.proofs.ValuesFiles.{no_room}
 
 -- ---- values files
-
--- a word that spells a number is not empty
-some_word : (word : List ℕ) (value : ℤ) → number_of word ≡ Some value → 0 < length word
-some_word [] value h = absurd (cc)
-some_word (c ∷ cs) value h = omega arith
-
--- a text has at least as many bytes as it spells numbers
-pub few_values : (text : List ℕ) (values : List ℤ) → Spells text values → length values ≤ length text
-few_values text [] h = omega arith
-few_values text (value ∷ values) (rest, begins, more) =
-    let word = some_word begins.word value begins.number in
-    let front = ap length begins.split ∙ length-append begins.gap (begins.word ++ rest) in
-    let back = length-append begins.word rest in
-    let behind = few_values rest values more in
-    omega (arith, word, front, back, behind)
-
--- a file that spells no list holds no values
-pub no_list : (kernel : KernelParts) (bytes : List ℕ) → ((values : List ℤ) → Spells bytes values → ⊥) → IsNoValuesFile kernel bytes
-no_list kernel bytes none values file = none values file.spelled
-
--- a file that is too long holds no values
-pub no_room : (kernel : KernelParts) (bytes : List ℕ) → 1000000 < length bytes → IsNoValuesFile kernel bytes
-no_room kernel bytes long values file = let short = file.short in omega (arith, long, short)
 
 -- as many labels as there are input elements
 labels_counted : (kernel : KernelParts) → length (labels_of kinds.Input kernel.decls) ≡ input_count kernel
@@ -106,7 +84,7 @@ pub long_values : {E : Type 0} (r : Result Answer E) (kernel : KernelParts) (gra
     → IfOk r (λ a. (text : List ℕ) (file : Option (Option (List ℕ))) → IsAccepted text kernel graph → TellsMoreFile file 1000000 → Meets (Runs text file) a)
 long_values (Ok a) kernel graph is line none = λ text file accepted more.
     let told = told_more_file file 1000000 more in
-    is_wrong text file kernel graph told.0 a.status a.text.items (file_items a.table) is line none (no_room kernel told.0 told.2) accepted told.1
+    is_wrong text file kernel graph told.0 a.status a.text.items (file_items a.table) is line none (no_room (length (labels_of kinds.Input kernel.decls)) told.0 told.2) accepted told.1
 long_values (Err e) kernel graph is line none = tt
 
 -- what answers the bytes of a file answers what was read of it

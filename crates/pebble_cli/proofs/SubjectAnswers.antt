@@ -1,26 +1,25 @@
 -- How the answer of a command to its kernel becomes its answer to the input, as far as the desk tells it.
-use Rattle.std.proofs.Common.{◌≡◌, ℕ, true, List, Option, Some, None, Result, Err, refl, sym, ap, subst}
+use Rattle.std.proofs.Common.{◌≡◌, ◌⊎◌, ℕ, true, List, Option, Some, None, Result, Err, inl, inr, refl, sym, ap, subst}
 use Rattle.desk_io.specs.declared.desk.Kind.{Kind}
 use Rattle.desk_io.specs.declared.desk.Kind.TheVariants.{TakeFile}
 use Rattle.desk_io.specs.Counts.{Rose}
 use Rattle.desk_io.specs.Known.{Tells}
+use Rattle.scratch_machine.specs.Codes.{CodeParts}
 use Rattle.pebble_cli.specs.declared.answer.Answer.{Answer}
 use Rattle.pebble_cli.specs.declared.answer.EarlyEnd.{EarlyEnd}
 use Rattle.pebble_cli.specs.declared.answer.EarlyEnd.TheVariants.{Refused, ReadFault, NoMemory}
 use Rattle.pebble_cli.specs.declared.commands.Command.{Command}
-use Rattle.pebble_cli.specs.declared.commands.Subject.{Subject}
-use Rattle.pebble_cli.specs.declared.commands.Subject.TheVariants.{InputKernel}
-use Rattle.pebble_cli.specs.Answers.{Answers, usage, faulty_kernel, IsAdmitted}
+use Rattle.pebble_cli.specs.declared.commands.Command.TheVariants.{Plan, Run, Exec, Graph}
+use Rattle.pebble_cli.specs.declared.commands.Subject.TheVariants.{InputKernel, InputCode}
+use Rattle.pebble_cli.specs.Answers.{Answers, usage, faulty_kernel, no_code, last_answer, IsAdmitted, code_input}
+use Rattle.pebble_cli.specs.CodeInputs.{IsCodeInput, IsNoCode}
 use Rattle.pebble_cli.specs.Commands.{subject, kernel_text, reads_file}
+use Rattle.pebble_cli.specs.ExecAnswers.{Executes}
 use Rattle.pebble_cli.specs.Faults.{ReadCause, of_file}
 use Rattle.pebble_cli.specs.MadeAnswers.{Meets, AnswersInput, IfRefused, IfAnswer}
 use Rattle.pebble_cli.specs.Refusals.{IsUsage, IsFaulty}
 use Rattle.pebble_cli.proofs.KernelAnswers.{more_of}
 use Rattle.pebble_cli.proofs.ToldBytes.{told_text}
-
--- each subject is the kernel in the input
-pub one_subject : (s : Subject) → s ≡ InputKernel
-one_subject InputKernel = refl
 
 -- the text of a kernel that the input is
 pub input_is_text : (command : Command) (input : List ℕ) → subject command ≡ InputKernel → kernel_text (subject command) input ≡ Some input
@@ -54,6 +53,47 @@ pub file_fault : (command : Command) (known : Option (List ℕ)) (text : List �
 file_fault command known text before mid now told e same h =
     let cause = h text (input_is_text command text e) in
     of_file command refl cause.0 (record { text = text; told = told; admitted = cause.1 }) (subst (λ n. Rose n (now TakeFile)) same cause.2)
+
+-- ---- code
+
+-- the one command on code
+pub only_exec : (command : Command) → subject command ≡ InputCode → command ≡ Exec
+only_exec (Plan asked) e = absurd (cc)
+only_exec Run e = absurd (cc)
+only_exec Exec e = refl
+only_exec Graph e = absurd (cc)
+
+-- a code that is too long
+pub long_code_answers : {A : Type 0} (r : Result Answer EarlyEnd) (text : Result A EarlyEnd) (end : EarlyEnd) (command : Command) (known : Option (List ℕ)) (file : Option (Option (List ℕ)))
+    → r ≡ Err end → text ≡ Err end → IfRefused text (λ a. (t : List ℕ) × Tells known t × Meets (IsNoCode t) a) → subject command ≡ InputCode
+    → IfAnswer r (AnswersInput (Some command) known file)
+long_code_answers {A} r text (Refused a) command known file is was k e =
+    let met : (t : List ℕ) × Tells known t × Meets (IsNoCode t) a = subst (λ z. IfRefused z (λ b. (t : List ℕ) × Tells known t × Meets (IsNoCode t) b)) was k in
+    let answer : AnswersInput (Some command) known file a = (met.0, met.1, no_code command refl e met.2) in
+    subst (λ z. IfAnswer z (AnswersInput (Some command) known file)) (sym is) answer
+long_code_answers {A} r text ReadFault command known file is was k e = subst (λ z. IfAnswer z (AnswersInput (Some command) known file)) (sym is) tt
+long_code_answers {A} r text NoMemory command known file is was k e = subst (λ z. IfAnswer z (AnswersInput (Some command) known file)) (sym is) tt
+
+-- what answers the text that was read answers the input
+pub code_answers : (r : Result Answer EarlyEnd) (command : Command) (known : Option (List ℕ)) (text : List ℕ) (file held : Option (Option (List ℕ)))
+    → Tells known text → held ≡ file → subject command ≡ InputCode → IfAnswer r (λ a. Meets (IsNoCode text) a ⊎ Meets (Executes text held) a)
+    → IfAnswer r (AnswersInput (Some command) known file)
+code_answers r command known text file held told same e h =
+    more_of r (λ a. Meets (IsNoCode text) a ⊎ Meets (Executes text held) a) (AnswersInput (Some command) known file) each h
+  where
+    ran : (a : Answer) → Meets (Executes text held) a → Meets (Answers (Some Exec) text file) a
+    ran a k = last_answer Exec refl (subst (λ f. Meets (Executes text f) a) same k)
+
+    each : (a : Answer) → Meets (IsNoCode text) a ⊎ Meets (Executes text held) a → AnswersInput (Some command) known file a
+    each a (inl none) = (text, told, no_code command refl e none)
+    each a (inr k) = (text, told, subst (λ c. Meets (Answers (Some c) text file) a) (sym (only_exec command e)) (ran a k))
+
+-- a take of the file that failed once the input was read
+pub code_file_fault : (command : Command) (known : Option (List ℕ)) (text : List ℕ) (before mid now : Kind → ℕ) → Tells known text → subject command ≡ InputCode
+    → mid TakeFile ≡ before TakeFile → ((code : CodeParts) × IsCodeInput text code) × Rose (mid TakeFile) (now TakeFile) → ReadCause (Some command) known before now
+code_file_fault command known text before mid now told e same cause =
+    of_file command refl (ap (λ c. reads_file (Some c)) (only_exec command e)) (record { text = text; told = told; admitted = code_input cause.0.0 e cause.0.1 })
+    (subst (λ n. Rose n (now TakeFile)) same cause.1)
 
 -- words that spell no command
 pub usage_answers : (command : Option Command) (known : Option (List ℕ)) (file : Option (Option (List ℕ))) (a : Answer) → command ≡ None → Meets IsUsage a → AnswersInput command known file a

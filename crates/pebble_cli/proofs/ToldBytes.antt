@@ -26,3 +26,23 @@ too_long text more = inl (inl (record { long = more; code_is = refl; at_is = ref
 pub told_is : (known : Option (List ℕ)) (told text : List ℕ) → Tells known told → known ≡ Some text → told ≡ text
 told_is None told text h e = absurd cc
 told_is (Some known) told text h e = sym h ∙ (let same : known ≡ text = cc in same)
+
+-- ---- the file
+
+-- a file that tells bytes is not missing
+pub not_missing : (file : Option (Option (List ℕ))) (bytes : List ℕ) → TellsFile file bytes → file ≡ Some None → ⊥
+not_missing None bytes held e = cc
+not_missing (Some None) bytes held e = held
+not_missing (Some (Some known)) bytes held e = cc
+
+-- the bytes of a file that is told
+pub told_bytes : (file : Option (Option (List ℕ))) (held : Option (List ℕ)) (some others : List ℕ) → file ≡ Some held → TellsFile file some → TellsFile file others → some ≡ others
+told_bytes None held some others e a b = absurd cc
+told_bytes (Some None) held some others e a b = absurd a
+told_bytes (Some (Some known)) held some others e a b = sym a ∙ b
+
+-- the bytes of a file that is not missing
+pub bytes_of : (file : Option (Option (List ℕ))) → (file ≡ Some None → ⊥) → (bytes : List ℕ) × TellsFile file bytes
+bytes_of None there = ([], tt)
+bytes_of (Some None) there = absurd (there refl)
+bytes_of (Some (Some known)) there = (known, refl)

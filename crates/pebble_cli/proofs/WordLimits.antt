@@ -1,17 +1,22 @@
 -- The numbers of a command that words spell are in range.
-use Rattle.std.proofs.Common.{◌≡◌, ℕ, ◌≤◌, Bool, true, false, cond, List, [], ◌∷◌, Option, Some, None, refl, subst, arith}
+use Rattle.std.proofs.Common.{◌≡◌, ◌⊎◌, ℕ, ◌≤◌, Bool, true, false, cond, List, [], ◌∷◌, Option, Some, None, inl, inr, refl, subst, arith}
 use Rattle.std.proofs.lemmas.Bool.{and_parts, leb-true}
 use Rattle.std.specs.Prelude.{codes}
 use Rattle.std.specs.Str.{bytes_eq}
 use Rattle.pebble_cli.specs.declared.commands.Command.{Command}
-use Rattle.pebble_cli.specs.declared.commands.Command.TheVariants.{Plan, Run, Graph}
+use Rattle.pebble_cli.specs.declared.commands.Command.TheVariants.{Plan, Run, Exec, Graph}
 use Rattle.pebble_cli.specs.AnswerLaws.{WordsAreInLimits}
-use Rattle.pebble_cli.specs.Words.{number, plan_command, run_command, digits_after, default_budget, IsInLimits}
+use Rattle.pebble_cli.specs.Words.{number, plan_command, values_command, digits_after, default_budget, IsInLimits}
 
 -- a choice that gives something passed its test
 chosen : {A : Type 0} (test : Bool) (choice : Option A) (found : A) → cond test choice None ≡ Some found → (test ≡ true) × (choice ≡ Some found)
 chosen true choice found e = (refl, e)
 chosen false choice found e = absurd (cc)
+
+-- a choice that gives something passed its test, or the other choice gave it
+chosen_or : {A : Type 0} (test : Bool) (choice other : Option A) (found : A) → cond test choice other ≡ Some found → (choice ≡ Some found) ⊎ (other ≡ Some found)
+chosen_or true choice other found e = inl e
+chosen_or false choice other found e = inr e
 
 -- a number lies between its limits
 number_in_range : (low high : ℕ) (word : List ℕ) (n : ℕ) → number low high word ≡ Some n → (low ≤ n) × (n ≤ high)
@@ -22,9 +27,9 @@ number_in_range low high word n e =
     let front = and_parts _ _ tests.0 in
     subst (λ k. (low ≤ k) × (k ≤ high)) is (leb-true _ _ front.1, leb-true _ _ tests.1)
 
-run_in_limits : (values : List ℕ) (asked : Command) → run_command values ≡ Some asked → IsInLimits asked
-run_in_limits [] asked e = absurd (cc)
-run_in_limits (c ∷ cs) asked e = let same : Run ≡ asked = cc in subst IsInLimits same tt
+values_in_limits : (found asked : Command) (values : List ℕ) → IsInLimits found → values_command found values ≡ Some asked → IsInLimits asked
+values_in_limits found asked [] limits e = absurd (cc)
+values_in_limits found asked (c ∷ cs) limits e = let same : found ≡ asked = cc in subst IsInLimits same limits
 
 plan_in_limits : (slots : Option ℕ) (table : List ℕ) (budget : Option ℕ) (asked : Command) → ((n : ℕ) → slots ≡ Some n → (1 ≤ n) × (n ≤ 64)) → ((n : ℕ) → budget ≡ Some n → n ≤ 150000)
     → plan_command slots table budget ≡ Some asked → IsInLimits asked
@@ -42,7 +47,10 @@ words_are_in_limits (name ∷ []) asked e =
     let both = chosen (bytes_eq name (codes "graph")) (Some Graph) asked e in
     let same : Graph ≡ asked = (let found = both.1 in cc) in
     subst IsInLimits same tt
-words_are_in_limits (name ∷ values ∷ []) asked e = run_in_limits values asked (chosen (bytes_eq name (codes "run")) (run_command values) asked e).1
+words_are_in_limits (name ∷ values ∷ []) asked e = elim (chosen_or (bytes_eq name (codes "run")) (values_command Run values) _ asked e) [
+  | inl run ↦ values_in_limits Run asked values tt run
+  | inr other ↦ values_in_limits Exec asked values tt (chosen (bytes_eq name (codes "exec")) (values_command Exec values) asked other).1
+]
 words_are_in_limits (name ∷ slots ∷ table ∷ []) asked e =
     plan_in_limits (number 1 64 slots) table (Some default_budget) asked (number_in_range 1 64 slots) (λ n is. let same : default_budget ≡ n = cc in omega (arith, same))
     (chosen (bytes_eq name (codes "plan")) (plan_command (number 1 64 slots) table (Some default_budget)) asked e).1

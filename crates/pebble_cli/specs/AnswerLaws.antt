@@ -5,10 +5,12 @@ use Rattle.comp_graph.specs.Dags.{degree}
 use Rattle.comp_graph.specs.Graphs.{GraphParts, dag_of}
 use Rattle.kernel_ast.specs.KernelParts.{KernelParts}
 use Rattle.pebble_cli.specs.declared.commands.Command.{Command}
+use Rattle.pebble_cli.specs.declared.commands.Subject.TheVariants.{InputCode}
 use Rattle.pebble_cli.specs.declared.status.Status.{Status}
-use Rattle.pebble_cli.specs.declared.status.Status.TheVariants.{Usage, Kernel, TooSmall, ReadFault, WriteFault, NoMemory}
+use Rattle.pebble_cli.specs.declared.status.Status.TheVariants.{Usage, Kernel, TooSmall, ReadFault, WriteFault, NoMemory, Code}
 use Rattle.pebble_cli.specs.Accepted.{IsAccepted, IsKernelFault}
 use Rattle.pebble_cli.specs.Answers.{Answers, LastAnswers, IsAdmitted}
+use Rattle.pebble_cli.specs.CodeInputs.{IsCodeFault, IsNoCode, code_fault_text}
 use Rattle.pebble_cli.specs.Commands.{subject, slots_of, kernel_text, reads_file, writes_file}
 use Rattle.pebble_cli.specs.Faults.{IsFileTold}
 use Rattle.pebble_cli.specs.Refusals.{IsUsage, IsFaulty, IsTooSmall, usage_text, kernel_fault_text, too_small_text}
@@ -63,6 +65,15 @@ KernelOnly = OfAnswers (λ command input file status printed table. status ≡ K
 abbrev pub KernelAlways : Type 0
 KernelAlways = (asked : Command) (input text : List ℕ) (file : Option (Option (List ℕ))) (code at : ℕ) → kernel_text (subject asked) input ≡ Some text
     → IsKernelFault text code at → Answers (Some asked) input file Kernel (kernel_fault_text code at) None
+
+-- Code stands only where the command works on code and the input is none, whose line is printed, and there it stands always.
+abbrev pub CodeOnly : Type 0
+CodeOnly = OfAnswers (λ command input file status printed table. status ≡ Code → (asked : Command) × (command ≡ Some asked)
+    × (subject asked ≡ InputCode) × IsNoCode input status printed table)
+
+abbrev pub CodeAlways : Type 0
+CodeAlways = (asked : Command) (input : List ℕ) (file : Option (Option (List ℕ))) (line : ℕ) → subject asked ≡ InputCode
+    → IsCodeFault input line → Answers (Some asked) input file Code (code_fault_text line) None
 
 -- TooSmall stands only where the command has slots and works on an accepted kernel whose degree is no less, and there it stands always.
 abbrev pub TooSmallOnly : Type 0

@@ -6,27 +6,33 @@ use Rattle.comp_graph.specs.Graphs.{GraphParts, dag_of}
 use Rattle.desk_io.specs.Known.{Tells}
 use Rattle.kernel_ast.specs.KernelParts.{KernelParts}
 use Rattle.pebble_cli.specs.declared.commands.Command.{Command}
-use Rattle.pebble_cli.specs.declared.commands.Command.TheVariants.{Plan, Run, Graph}
+use Rattle.pebble_cli.specs.declared.commands.Command.TheVariants.{Plan, Run, Exec, Graph}
+use Rattle.pebble_cli.specs.declared.commands.Subject.TheVariants.{InputCode}
 use Rattle.pebble_cli.specs.declared.status.Status.{Status}
 use Rattle.pebble_cli.specs.Accepted.{IsAccepted}
+use Rattle.pebble_cli.specs.CodeInputs.{IsCodeInput, IsNoCode}
 use Rattle.pebble_cli.specs.Commands.{subject, slots_of, kernel_text}
+use Rattle.pebble_cli.specs.ExecAnswers.{Executes}
 use Rattle.pebble_cli.specs.GraphAnswers.{IsDrawn}
 use Rattle.pebble_cli.specs.PlanAnswers.{IsPlanned}
 use Rattle.pebble_cli.specs.Refusals.{IsUsage, IsFaulty, IsTooSmall}
 use Rattle.pebble_cli.specs.RunAnswers.{Runs}
+use Rattle.scratch_machine.specs.Codes.{CodeParts}
 
 -- the last answers of each command to an input and a file, as far as the desk tells the file
 abbrev pub LastAnswers : Command → List ℕ → Option (Option (List ℕ)) → Status → List ℕ → Option (List ℕ) → Type 0
 LastAnswers (Plan asked) input file = IsPlanned asked input
 LastAnswers Run input file = Runs input file
+LastAnswers Exec input file = Executes input file
 LastAnswers Graph input file = IsDrawn input
 
 -- The status, the text and the table that answer words with this input and this file, as far as the desk tells the file: words that
--- spell no command, a kernel with a fault, too few slots, and else an answer of the command's own.
+-- spell no command, a kernel with a fault, an input that is no code, too few slots, and else an answer of the command's own.
 pub data Answers (command : Option Command) (input : List ℕ) (file : Option (Option (List ℕ))) (status : Status) (printed : List ℕ) (table : Option (List ℕ)) : Type 0 where
   usage : command ≡ None → IsUsage status printed table → Answers command input file status printed table
   faulty_kernel : (asked : Command) (text : List ℕ) → command ≡ Some asked → kernel_text (subject asked) input ≡ Some text
       → IsFaulty text status printed table → Answers command input file status printed table
+  no_code : (asked : Command) → command ≡ Some asked → subject asked ≡ InputCode → IsNoCode input status printed table → Answers command input file status printed table
   too_few_slots : (asked : Command) (text : List ℕ) (slots : ℕ) → command ≡ Some asked → kernel_text (subject asked) input ≡ Some text
       → slots_of asked ≡ Some slots → IsTooSmall slots text status printed table → Answers command input file status printed table
   last_answer : (asked : Command) → command ≡ Some asked → LastAnswers asked input file status printed table
@@ -39,9 +45,10 @@ pub record HasRoom (slots : Option ℕ) (text : List ℕ) : Type 0 where
   pub accepted : IsAccepted text kernel graph
   pub room : (count : ℕ) → slots ≡ Some count → degree (dag_of graph) < count
 
--- nothing refuses the command with this input: its kernel is accepted, and its slots are enough for it
+-- nothing refuses the command with this input: its kernel is accepted, and its slots are enough for it; or the input is a code
 pub data IsAdmitted (asked : Command) (input : List ℕ) : Type 0 where
   kernel_with_room : (text : List ℕ) → kernel_text (subject asked) input ≡ Some text → HasRoom (slots_of asked) text → IsAdmitted asked input
+  code_input : (code : CodeParts) → subject asked ≡ InputCode → IsCodeInput input code → IsAdmitted asked input
 
 -- the input is one that is admitted to the command, as far as the desk tells it
 pub record HasAdmitted (asked : Command) (input : Option (List ℕ)) : Type 0 where

@@ -1,9 +1,9 @@
 -- What each command works on, its slots, and what it does with the file that its words name (this project's convention).
 use Rattle.std.specs.Prelude.{ℕ, Bool, true, false, List, Option, None, Some}
 use Rattle.pebble_cli.specs.declared.commands.Command.{Command}
-use Rattle.pebble_cli.specs.declared.commands.Command.TheVariants.{Plan, Run, Graph}
+use Rattle.pebble_cli.specs.declared.commands.Command.TheVariants.{Plan, Run, Exec, Graph}
 use Rattle.pebble_cli.specs.declared.commands.Subject.{Subject}
-use Rattle.pebble_cli.specs.declared.commands.Subject.TheVariants.{InputKernel}
+use Rattle.pebble_cli.specs.declared.commands.Subject.TheVariants.{InputKernel, InputCode}
 
 -- what a command does with the file
 pub data FileUse : Type 0 where
@@ -13,27 +13,32 @@ pub data FileUse : Type 0 where
 abbrev pub subject : Command → Subject
 subject (Plan asked) = InputKernel
 subject Run = InputKernel
+subject Exec = InputCode
 subject Graph = InputKernel
 
 -- the number of its slots, if it has slots
 abbrev pub slots_of : Command → Option ℕ
 slots_of (Plan asked) = Some asked.slots
 slots_of Run = None
+slots_of Exec = None
 slots_of Graph = None
 
 -- what it does with the file
 abbrev pub file_use : Command → FileUse
 file_use (Plan asked) = written
 file_use Run = read
+file_use Exec = read
 file_use Graph = untouched
 
 -- the text of the kernel that a subject is, with this input, if it is a kernel
 abbrev pub kernel_text : Subject → List ℕ → Option (List ℕ)
 kernel_text InputKernel input = Some input
+kernel_text InputCode input = None
 
 -- the subject stands in the input
 abbrev pub is_in_input : Subject → Bool
 is_in_input InputKernel = true
+is_in_input InputCode = true
 
 -- the file is read
 abbrev pub is_read : FileUse → Bool

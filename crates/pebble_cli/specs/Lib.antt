@@ -2,8 +2,11 @@
 pub mod Accepted
 pub mod AnswerLaws
 pub mod Answers
+pub mod CodeInputs
 pub mod Commands
 pub mod Deliver
+pub mod ExecAnswers
+pub mod ExecLaws
 pub mod Faults
 pub mod GraphAnswers
 pub mod GraphLaws
@@ -15,4 +18,5 @@ pub mod Refusals
 pub mod RunAnswers
 pub mod RunLaws
 pub mod Status
+pub mod ValuesFiles
 pub mod Words

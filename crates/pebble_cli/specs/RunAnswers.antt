@@ -1,6 +1,6 @@
 -- What `run` answers to an accepted kernel (this project's convention): the outputs on the values in a file, or that the file holds no
 -- values of the kernel.
-use Rattle.std.specs.Prelude.{◌≡◌, ◌⊎◌, ◌≤◌, ℕ, ℤ, List, length, codes, None}
+use Rattle.std.specs.Prelude.{◌≡◌, ◌⊎◌, ℕ, ℤ, List, length, None}
 use Rattle.std.specs.declared.option.Option.{Option}
 use Rattle.comp_graph.specs.Graphs.{GraphParts}
 use Rattle.desk_io.specs.Known.{TellsFile}
@@ -9,24 +9,18 @@ use Rattle.kernel_ast.specs.KernelParts.{KernelParts}
 use Rattle.kernel_ast.specs.Labels.{labels_of}
 use Rattle.kernel_ast.specs.Meaning.{outputs}
 use Rattle.plan_report.specs.OutputsText.{outputs_text}
-use Rattle.values_text.specs.Values.{Spells}
 use Rattle.pebble_cli.specs.declared.status.Status.{Status}
 use Rattle.pebble_cli.specs.declared.status.Status.TheVariants.{Done, Values}
 use Rattle.pebble_cli.specs.Accepted.{IsAccepted}
+use Rattle.pebble_cli.specs.ValuesFiles.{HoldsValues, HoldsNone, values_fault_text}
 
--- the line for a file that is no values file of the kernel
-abbrev pub values_fault_text : List ℕ
-values_fault_text = codes "values fault\n"
-
--- the bytes are a values file of the kernel: at most 1,000,000 bytes, which spell these numbers, one for each input element
-pub record IsValuesFile (kernel : KernelParts) (bytes : List ℕ) (values : List ℤ) : Type 0 where
-  pub short : length bytes ≤ 1000000
-  pub spelled : Spells bytes values
-  pub counted : length values ≡ length (labels_of Input kernel.decls)
+-- the bytes are a values file of the kernel: they hold a value for each input element
+abbrev pub IsValuesFile : KernelParts → List ℕ → List ℤ → Type 0
+IsValuesFile kernel = HoldsValues (length (labels_of Input kernel.decls))
 
 -- the bytes are no values file of the kernel
 abbrev pub IsNoValuesFile : KernelParts → List ℕ → Type 0
-IsNoValuesFile kernel bytes = (values : List ℤ) → IsValuesFile kernel bytes values → ⊥
+IsNoValuesFile kernel = HoldsNone (length (labels_of Input kernel.decls))
 
 -- The text is accepted, the file holds values of its kernel, and the outputs of the source on these values are printed, a line for each
 -- output element with its label, in order of declaration and row by row. No table is written.

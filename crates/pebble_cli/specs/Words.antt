@@ -6,7 +6,7 @@ use Rattle.std.specs.Char.{is_ascii_digit}
 use Rattle.std.specs.List.{list_all}
 use Rattle.std.specs.Str.{bytes_eq}
 use Rattle.pebble_cli.specs.declared.commands.Command.{Command}
-use Rattle.pebble_cli.specs.declared.commands.Command.TheVariants.{Plan, Run, Graph}
+use Rattle.pebble_cli.specs.declared.commands.Command.TheVariants.{Plan, Run, Exec, Graph}
 
 -- the number that digits spell, after the digits so far
 abbrev pub digits_after : ℕ → List ℕ → ℕ
@@ -31,20 +31,22 @@ abbrev pub plan_command : Option ℕ → List ℕ → Option ℕ → Option Comm
 plan_command (Some slots) (c ∷ table) (Some budget) = Some (Plan (record { slots = slots; budget = budget }))
 plan_command _ _ _ = None
 
--- the run, where there is a name of a values file that is not empty
-abbrev pub run_command : List ℕ → Option Command
-run_command [] = None
-run_command (c ∷ values) = Some Run
+-- a command on values, where the name of their file is not empty
+abbrev pub values_command : Command → List ℕ → Option Command
+values_command asked [] = None
+values_command asked (c ∷ values) = Some asked
 
 -- the budget of a plan that names none
 abbrev pub default_budget : ℕ
 default_budget = 20000
 
--- the command that the words spell: `plan S TABLE` with 1 to 64 slots, which may name a budget from 0 to 150,000 too, `run VALUES`, or
--- `graph` (this project's convention); `file_word` gives the name of TABLE or VALUES
+-- the command that the words spell: `plan S TABLE` with 1 to 64 slots, which may name a budget from 0 to 150,000 too, `run VALUES`,
+-- `exec VALUES`, or `graph` (this project's convention); `file_word` gives the name of TABLE or VALUES
 abbrev pub command : List (List ℕ) → Option Command
 command (name ∷ []) = if bytes_eq name (codes "graph") then Some Graph else None
-command (name ∷ values ∷ []) = if bytes_eq name (codes "run") then run_command values else None
+command (name ∷ values ∷ []) =
+    if bytes_eq name (codes "run") then values_command Run values
+    else (if bytes_eq name (codes "exec") then values_command Exec values else None)
 command (name ∷ slots ∷ table ∷ []) =
     if bytes_eq name (codes "plan") then plan_command (number 1 64 slots) table (Some default_budget) else None
 command (name ∷ slots ∷ table ∷ budget ∷ []) =
@@ -79,4 +81,5 @@ file_named_by words = file_word (map string_bytes words)
 abbrev pub IsInLimits : Command → Type 0
 IsInLimits (Plan asked) = (1 ≤ asked.slots) × (asked.slots ≤ 64) × (asked.budget ≤ 150000)
 IsInLimits Run = Unit {0}
+IsInLimits Exec = Unit {0}
 IsInLimits Graph = Unit {0}

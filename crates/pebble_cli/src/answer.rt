@@ -4,12 +4,15 @@
 use crate::status::Status;
 use comp_graph::NoMemory;
 
+pub mod code_fault;
+pub mod exec;
 pub mod graph;
 pub mod kernel_fault;
 pub mod plan;
 pub mod run;
 pub mod too_small;
 pub mod usage;
+pub mod values;
 
 /// What a run answers: its status, the text for the output, and the bytes of the table file where one is written.
 #[derive(Drop)]

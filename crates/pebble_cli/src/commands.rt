@@ -7,6 +7,8 @@ pub enum Command {
     Plan(Planning),
     /// `run`: the outputs of the source on the values of a file.
     Run,
+    /// `exec`: the outputs of a code on the values of a file.
+    Exec,
     /// `graph`: the graph of the source.
     Graph,
 }
@@ -25,6 +27,8 @@ pub struct Planning {
 pub enum Subject {
     /// The kernel whose text the input is.
     InputKernel,
+    /// The code whose text the input is.
+    InputCode,
 }
 
 impl Command {
@@ -37,6 +41,7 @@ impl Command {
     {
         match self {
             Command::Plan(_) | Command::Run | Command::Graph => Subject::InputKernel,
+            Command::Exec => Subject::InputCode,
         }
     }
 }

@@ -11,7 +11,13 @@ const KERNEL: &str = "kernel p { in x; out y; y = x + 1; }";
 /// What `run` prints of it on the file `5`.
 const OUTPUTS: &str = "y = 6\n";
 
-/// What `graph` prints of it.
+/// Its code, of 64 bytes.
+const CODE: &str = "slots 2\nwords 2\nin x\nout y 1\nload 0 0\nadd 1 s0 #1\nstore 1 1\nend\n";
+
+/// What `exec` prints of it on the file `5`.
+const EXECUTED: &str = "y = 6\n; transfers 2\n";
+
+/// What `graph` prints of the kernel.
 const GRAPH: &str = "vertices 2\ninputs 1\ndegree 1\n0 in x\n1 add v0 #1\nout y v1\n";
 
 const USAGE: &str =
@@ -21,7 +27,7 @@ const USAGE: &str =
 #[derive(Clone, Copy)]
 struct Row(&'static str, Kind, u32, Status, &'static str);
 
-const ROWS: [Row; 21] = [
+const ROWS: [Row; 29] = [
     Row("run v", Kind::TakeInput, 0, Status::ReadFault, ""),
     Row("run v", Kind::TakeInput, 36, Status::ReadFault, ""),
     Row("run v", Kind::TakeFile, 0, Status::ReadFault, ""),
@@ -31,6 +37,14 @@ const ROWS: [Row; 21] = [
     Row("run v", Kind::PutOutput, 6, Status::Done, OUTPUTS),
     Row("run v", Kind::PutFile, 0, Status::Done, OUTPUTS),
     Row("run v", Kind::ClearFile, 0, Status::Done, OUTPUTS),
+    Row("exec v", Kind::TakeInput, 0, Status::ReadFault, ""),
+    Row("exec v", Kind::TakeInput, 64, Status::ReadFault, ""),
+    Row("exec v", Kind::TakeFile, 0, Status::ReadFault, ""),
+    Row("exec v", Kind::TakeFile, 1, Status::ReadFault, ""),
+    Row("exec v", Kind::PutOutput, 0, Status::WriteFault, ""),
+    Row("exec v", Kind::PutOutput, 7, Status::WriteFault, "y = 6\n;"),
+    Row("exec v", Kind::PutFile, 0, Status::Done, EXECUTED),
+    Row("exec v", Kind::ClearFile, 0, Status::Done, EXECUTED),
     Row("graph", Kind::TakeInput, 0, Status::ReadFault, ""),
     Row("graph", Kind::TakeInput, 36, Status::ReadFault, ""),
     Row("graph", Kind::TakeFile, 0, Status::Done, GRAPH),
@@ -67,11 +81,12 @@ fn words_of(alloc: Global, line: &str) -> Result<Vec<String>, AllocError> {
 fn check_row(rt: &impl Abort, alloc: Global, row: Row) -> Result<(), Fail> {
     let Row(line, kind, nth, expected, printed) = row;
     let words = words_of(alloc, line)?;
+    let input = if line == "exec v" { CODE } else { KERNEL };
     let mut fail = Vec::new(alloc);
     fail.push(Failing { kind, nth })?;
     let mut desk = MemoryDesk {
         name: String::from_str(alloc, file_word(&words))?,
-        input: Vec::from_slice(alloc, KERNEL.as_bytes())?,
+        input: Vec::from_slice(alloc, input.as_bytes())?,
         file: Some(Vec::from_slice(alloc, b"5")?),
         output: Vec::new(alloc),
         most: 1,

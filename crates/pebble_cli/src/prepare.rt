@@ -1,28 +1,35 @@
 //! The whole answer of a run, before anything is written.
-ghost use Rattle.std.specs.Prelude.{◌≡◌, ◌⊎◌, ℕ, List, true, false, IfOk, IfErr, Err, Some};
+ghost use Rattle.std.specs.Prelude.{◌≡◌, ◌⊎◌, ◌≤◌, ℕ, List, length, true, false, IfOk, IfErr, Err, Some};
 ghost use Rattle.desk_io.specs.declared.desk.Kind.{Kind};
+ghost use Rattle.scratch_machine.specs.Codes.{CodeParts};
 ghost use Rattle.desk_io.specs.Counts.{Rose};
 ghost use Rattle.desk_io.specs.Known.{input_end};
+ghost use Rattle.pebble_cli.specs.declared.commands.Subject.{Subject};
 ghost use Rattle.pebble_cli.specs.declared.status.Status.{Status};
 ghost use Rattle.pebble_cli.specs.Accepted.{IsAccepted};
 ghost use Rattle.pebble_cli.specs.Answers.{Answers, IsAdmitted};
+ghost use Rattle.pebble_cli.specs.CodeInputs.{IsCodeInput, IsNoCode};
 ghost use Rattle.pebble_cli.specs.Commands.{subject, kernel_text, reads_input, reads_file};
 ghost use Rattle.pebble_cli.specs.Deliver.{SameWriteFaults};
+ghost use Rattle.pebble_cli.specs.ExecAnswers.{Executes};
 ghost use Rattle.pebble_cli.specs.Faults.{ReadCause};
 ghost use Rattle.pebble_cli.specs.MadeAnswers.{Meets, IfAnswer, AnswersInput};
 ghost use Rattle.pebble_cli.specs.RunAnswers.{Runs};
 ghost use Rattle.pebble_cli.specs.Status.{IsOfRead};
 ghost use Rattle.pebble_cli.specs.Words.{asked_by, IsInLimits};
 
+use crate::answer::code_fault::readable_code;
+use crate::answer::exec::exec_answer;
 use crate::answer::graph::graph_answer;
 use crate::answer::kernel_fault::accepted_kernel;
 use crate::answer::plan::plan_answer;
-use crate::answer::run::{VALUES_LIMIT, run_answer};
+use crate::answer::run::run_answer;
 use crate::answer::usage::usage_answer;
+use crate::answer::values::VALUES_LIMIT;
 use crate::answer::{Answer, EarlyEnd};
 use crate::commands::{Command, Subject};
 use crate::kernel::Accepted;
-use crate::reading::{file_bytes, kernel_input};
+use crate::reading::{code_input, file_bytes, kernel_input};
 use crate::status::Status;
 use crate::words::read;
 use desk_io::Desk;
@@ -49,6 +56,24 @@ fn run_on_file<D: Desk>(
     Ok(run_answer(alloc, accepted, &values)?)
 }
 
+// The answer of `exec` to the text of a code. The file is read where the text is one.
+fn exec_on_file<D: Desk>(alloc: Global, desk: &mut D, text: &[u8]) -> Result<Answer, EarlyEnd>
+    requires { length text.now ≤ 20000000 }
+    ensures answers { IfAnswer result (λ answer.
+        Meets (IsNoCode text.now) answer ⊎ Meets (Executes text.now (D.file desk.old)) answer) }
+    ensures fault { result ≡ Err EarlyEnd.ReadFault → ((code : CodeParts) × IsCodeInput text.now code)
+        × Rose (D.faults desk.old Kind.TakeFile) (D.faults desk.new Kind.TakeFile) }
+    ensures write_faults { SameWriteFaults (D.faults desk.old) (D.faults desk.new) }
+    ensures same_name { D.name desk.new ≡ D.name desk.old }
+    ensures same_input { D.input desk.new ≡ D.input desk.old }
+    ensures same_file { D.file desk.new ≡ D.file desk.old }
+    ensures same_output { D.output desk.new ≡ D.output desk.old }
+{
+    let code = readable_code(alloc, text)?;
+    let values = file_bytes(alloc, desk, VALUES_LIMIT)?;
+    Ok(exec_answer(alloc, &code, &values)?)
+}
+
 // The answer of a command to the text of its kernel. The file is read where the command reads one and nothing refuses it.
 fn kernel_answer<D: Desk>(
     alloc: Global,
@@ -56,7 +81,8 @@ fn kernel_answer<D: Desk>(
     command: Command,
     text: &[u8],
 ) -> Result<Answer, EarlyEnd>
-    requires { IsInLimits command }
+    requires limits { IsInLimits command }
+    requires kernel { subject command ≡ Subject.InputKernel }
     ensures answers { (input : List ℕ) → kernel_text (subject command) input ≡ Some text.now →
         IfAnswer result (Meets (Answers (Some command) input (D.file desk.old))) }
     ensures fault { (input : List ℕ) → kernel_text (subject command) input ≡ Some text.now →
@@ -72,6 +98,8 @@ fn kernel_answer<D: Desk>(
     match command {
         Command::Plan(asked) => plan_answer(alloc, accepted.graph, asked),
         Command::Run => run_on_file(alloc, desk, &accepted),
+        // Its subject is no kernel.
+        Command::Exec => unreachable!(),
         Command::Graph => graph_answer(alloc, &accepted.graph),
     }
 }
@@ -98,6 +126,10 @@ fn command_answer<D: Desk>(
         Subject::InputKernel => {
             let text = kernel_input(alloc, desk)?;
             kernel_answer(alloc, desk, command, &text)
+        }
+        Subject::InputCode => {
+            let text = code_input(alloc, desk)?;
+            exec_on_file(alloc, desk, &text)
         }
     }
 }

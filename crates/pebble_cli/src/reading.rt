@@ -1,12 +1,14 @@
 //! What is read before an answer is made: the input, and the file for each command that reads one. Nothing is written.
-ghost use Rattle.std.specs.Prelude.{◌≡◌, ℕ, List, IfOk, OnOk, Err};
+ghost use Rattle.std.specs.Prelude.{◌≡◌, ◌≤◌, ℕ, List, IfOk, OnOk, Err, length};
 ghost use Rattle.desk_io.specs.declared.desk.Kind.{Kind};
 ghost use Rattle.desk_io.specs.Counts.{Rose};
 ghost use Rattle.desk_io.specs.Known.{Tells, input_end};
+ghost use Rattle.pebble_cli.specs.CodeInputs.{IsNoCode};
 ghost use Rattle.pebble_cli.specs.MadeAnswers.{Meets, IfRefused, IsFileOf};
 ghost use Rattle.pebble_cli.specs.Deliver.{SameWriteFaults};
 ghost use Rattle.pebble_cli.specs.Refusals.{IsFaulty};
 
+use crate::answer::code_fault::code_fault_answer;
 use crate::answer::kernel_fault::kernel_fault_answer;
 use crate::answer::{EarlyEnd, FileBytes};
 use desk_io::{Desk, ReadEnd, read_file, read_input};
@@ -15,6 +17,9 @@ use std::alloc::Global;
 
 /// The most bytes of a kernel's text.
 const KERNEL_LIMIT: u32 = MAX_LENGTH as u32;
+
+/// The most bytes of a code's text.
+const CODE_LIMIT: u32 = 20_000_000;
 
 /// The kernel's text that the input is, read to its end.
 ///
@@ -42,6 +47,34 @@ pub fn kernel_input<D: Desk>(alloc: Global, desk: &mut D) -> Result<Vec<u8>, Ear
             15,
             KERNEL_LIMIT,
         )?)),
+        Err(ReadEnd::ReadFault) => Err(EarlyEnd::ReadFault),
+        Err(ReadEnd::NoMemory) => Err(EarlyEnd::NoMemory),
+    }
+}
+
+/// The code's text that the input is, read to its end.
+///
+/// # Errors
+///
+/// [`EarlyEnd::Refused`] with the line 0 for a text of more than 20,000,000 bytes, which is not read further than it takes to see this.
+/// [`EarlyEnd::ReadFault`] where a take failed, and [`EarlyEnd::NoMemory`].
+pub fn code_input<D: Desk>(alloc: Global, desk: &mut D) -> Result<Vec<u8>, EarlyEnd>
+    ensures told { IfOk result (λ text. Tells (D.input desk.old) text.items) }
+    ensures short { IfOk result (λ text. length text.items ≤ 20000000) }
+    ensures whole { OnOk result (D.input desk.new ≡ input_end (D.input desk.old)) }
+    ensures refused { IfRefused result (λ answer.
+        (text : List ℕ) × Tells (D.input desk.old) text × Meets (IsNoCode text) answer) }
+    ensures fault { result ≡ Err EarlyEnd.ReadFault →
+        Rose (D.faults desk.old Kind.TakeInput) (D.faults desk.new Kind.TakeInput) }
+    ensures same_takes { D.faults desk.new Kind.TakeFile ≡ D.faults desk.old Kind.TakeFile }
+    ensures write_faults { SameWriteFaults (D.faults desk.old) (D.faults desk.new) }
+    ensures same_name { D.name desk.new ≡ D.name desk.old }
+    ensures same_file { D.file desk.new ≡ D.file desk.old }
+    ensures same_output { D.output desk.new ≡ D.output desk.old }
+{
+    match read_input(alloc, desk, CODE_LIMIT) {
+        Ok(text) => Ok(text),
+        Err(ReadEnd::TooLong) => Err(EarlyEnd::Refused(code_fault_answer(alloc, 0)?)),
         Err(ReadEnd::ReadFault) => Err(EarlyEnd::ReadFault),
         Err(ReadEnd::NoMemory) => Err(EarlyEnd::NoMemory),
     }

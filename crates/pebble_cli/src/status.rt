@@ -27,7 +27,7 @@ pub enum Status {
     WriteFault,
     /// Memory was wanted and not found. Nothing was written.
     NoMemory,
-    /// The input is no code text.
+    /// The input of `exec` is no code.
     Code,
     /// The values file is no list of numbers of the right count.
     Values,

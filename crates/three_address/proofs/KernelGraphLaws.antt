@@ -129,14 +129,14 @@ outputs_labelled (l ∷ labels) (a ∷ found) e = ap (λ ls. l ∷ ls) (outputs_
 -- ---- the parts of a graph
 
 -- the end of the run that a kernel's graph comes from
-record HasRun (k : KernelParts) (graph : GraphParts) : Type 0 where
-  found : List Held
-  log : List Entry
-  ran : run_all numbered numbered_input k [] ≡ Ok (found, log)
-  meant : meaning k ≡ Ok (found, log)
-  is : graph_by k (map (λ h. h.origin) found, log) ≡ graph
+pub record HasRun (k : KernelParts) (graph : GraphParts) : Type 0 where
+  pub found : List Held
+  pub log : List Entry
+  pub ran : run_all numbered numbered_input k [] ≡ Ok (found, log)
+  pub meant : meaning k ≡ Ok (found, log)
+  pub is : graph_by k (map (λ h. h.origin) found, log) ≡ graph
 
-has_run : (k : KernelParts) (graph : GraphParts) → graph_of k ≡ Ok graph → HasRun k graph
+pub has_run : (k : KernelParts) (graph : GraphParts) → graph_of k ≡ Ok graph → HasRun k graph
 has_run k graph e =
     let made = ok_next (meaning k) (λ (r : List Held × List Entry). Ok (graph_by k (map (λ h. h.origin) r.0, r.1))) graph e in
     let run = ok_next (walk_all k.decls k.body) (λ _. run_all numbered numbered_input k []) made.0 made.1 in

@@ -5,3 +5,4 @@ pub mod KernelLogs
 pub mod KernelRuns
 pub mod Pictured
 pub mod ElementsLeft
+pub mod SmallConstants

@@ -1,5 +1,10 @@
 -- Laws of the graph of a well-formed kernel, also of one with arrays and loops.
-use Rattle.std.specs.Prelude.{◌≡◌, ℕ, ℤ, List, length, map, Ok, Err}
+use Rattle.std.specs.Prelude.{◌≡◌, ℕ, ℤ, List, length, map, Ok, Err, ⊤, FitsSigned}
+use Rattle.std.specs.Int.{w64}
+use Rattle.std.specs.List.{All}
+use Rattle.comp_graph.specs.declared.node.Node.{Node}
+use Rattle.comp_graph.specs.declared.node.Operand.{Operand}
+use Rattle.comp_graph.specs.declared.node.Operand.TheVariants.{Vertex, Const}
 use Rattle.comp_graph.specs.Graphs.{GraphParts, IsGraph}
 use Rattle.scratch_machine.specs.Values.{AreValues, output_values}
 use Rattle.kernel_ast.specs.declared.tree.DeclKind.TheVariants as kinds
@@ -37,3 +42,16 @@ GraphsHaveTheFaults = (kernel : KernelParts) → fault_of (graph_of kernel) ≡ 
 -- a fault of the walk is the first one
 abbrev pub WalksComeFirst : Type 0
 WalksComeFirst = (kernel : KernelParts) (fault : Fault) → walk_all kernel.decls kernel.body ≡ Err fault → graph_of kernel ≡ Err fault
+
+-- a constant has 64 bits
+abbrev pub HasSmallConstant : Operand → Type 0
+HasSmallConstant (Vertex v) = ⊤
+HasSmallConstant (Const n) = FitsSigned w64 n
+
+-- each constant of a node has 64 bits
+abbrev pub HasSmallConstants : Node → Type 0
+HasSmallConstants n = All HasSmallConstant n.args
+
+-- the constants of the graph of a kernel have 64 bits
+abbrev pub ConstantsAreSmall : Type 0
+ConstantsAreSmall = (kernel : KernelParts) (graph : GraphParts) → IsWellFormed kernel → graph_of kernel ≡ Ok graph → All HasSmallConstants graph.nodes

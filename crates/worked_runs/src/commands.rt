@@ -1,4 +1,4 @@
-//! The commands `run`, `graph` and `plan` on one kernel each: what is printed, the status, and the file that is left.
+//! The commands `run`, `graph`, `plan` and `exec` on one input each: what is printed, the status, and the file that is left.
 use desk_io::HonestDesk;
 use example_runs::{run_line, run_on, words_of};
 use pebble_cli::{Status, file_word, pebble};
@@ -16,6 +16,9 @@ const NO_TURN: &str = "kernel a { in x; out y; y = x; for i in 3..3 { y = x + i;
 
 const CHAIN: &str =
     "kernel chain { in x; out y; tmp a; tmp b; tmp c; a = x+1; b = x+2; c = a*b; c = c*(x+3); c = c*a; y = c*b; }";
+
+/// The code of y = x.
+const COPY: &str = "slots 1\nwords 1\nin x\nout y 0\nend\n";
 
 /// One operation of each kind, on vertices and constants.
 const EACH: &str =
@@ -213,6 +216,22 @@ fn a_file_that_is_missing(rt: HostRuntime) -> Result<(), Fail> {
     let fails = Vec::new(rt.alloc());
     let left = run_on(rt.alloc(), &words, b"kernel a { out y; }", None, 1, fails)?;
     assert_eq!(rt; left.status, Status::Kernel);
+    // `exec` wants its file too, and reads it only where its input is a code.
+    let words = words_of(rt.alloc(), "exec v")?;
+    for (text, status, printed) in [
+        (COPY, Status::ReadFault, ""),
+        (
+            "slots 1\nwords 1\nout y 0\nload 0 0\n",
+            Status::Code,
+            "code fault line 5\n",
+        ),
+    ] {
+        let fails = Vec::new(rt.alloc());
+        let left = run_on(rt.alloc(), &words, text.as_bytes(), None, 1, fails)?;
+        assert_eq!(rt; left.status, status);
+        assert_eq!(rt; left.output.as_slice(), printed.as_bytes());
+        assert!(rt; left.file.is_none());
+    }
     // `graph` takes no file, and `plan` makes it.
     let words = words_of(rt.alloc(), "graph")?;
     let fails = Vec::new(rt.alloc());
@@ -222,14 +241,17 @@ fn a_file_that_is_missing(rt: HostRuntime) -> Result<(), Fail> {
     Ok(())
 }
 
-/// Words, a kernel, and the status over a desk on which no call fails, and whose file holds `5`.
-const HONEST: [(&str, &str, Status); 9] = [
+/// Words, an input, and the status over a desk on which no call fails, and whose file holds `5`.
+const HONEST: [(&str, &str, Status); 12] = [
     ("plan 2 t", P, Status::Optimal),
     ("plan 3 t 1", CHAIN, Status::Open),
     ("plan 1 t 0", P, Status::TooSmall),
     ("plan 3 t 0", CHAIN, Status::Open),
     ("run v", CHAIN, Status::Done),
     ("run v", "kernel e { }", Status::Values),
+    ("exec v", COPY, Status::Done),
+    ("exec v", "slots 1\nwords 0\nend\n", Status::Values),
+    ("exec v", P, Status::Code),
     ("graph", EACH, Status::Done),
     ("graph", "kernel a { out y; }", Status::Kernel),
     ("run", P, Status::Usage),

@@ -129,7 +129,7 @@ fn check_row(rt: &impl Abort, alloc: Global, row: Row) -> Result<(), TestFail> {
 }
 
 /// Words that spell no command.
-const USAGES: [&str; 16] = [
+const USAGES: [&str; 17] = [
     "plan 0 t",
     "plan 02 t",
     "plan 65 t 0",
@@ -143,7 +143,8 @@ const USAGES: [&str; 16] = [
     "check 65 t",
     "graph g",
     "run",
-    "exec v",
+    "exec",
+    "exec v w",
     "--help",
     "",
 ];

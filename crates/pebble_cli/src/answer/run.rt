@@ -6,8 +6,9 @@ ghost use Rattle.desk_io.specs.Known.{TellsFile, file_items};
 ghost use Rattle.plan_report.specs.OutputsText.{outputs_text};
 ghost use Rattle.pebble_cli.specs.Accepted.{IsAccepted};
 ghost use Rattle.pebble_cli.specs.MadeAnswers.{Meets, IsFileOf};
-ghost use Rattle.pebble_cli.specs.RunAnswers.{Runs, values_fault_text};
+ghost use Rattle.pebble_cli.specs.RunAnswers.{Runs};
 
+use super::values::values_fault;
 use super::{Answer, FileBytes};
 use crate::kernel::Accepted;
 use crate::status::Status;
@@ -16,22 +17,6 @@ use plan_report::outputs_text;
 use source_machine::{RunEnd, run};
 use std::alloc::Global;
 use values_text::{ValuesEnd, read_values};
-
-/// The most bytes of a values file.
-pub const VALUES_LIMIT: u32 = 1_000_000;
-
-// The answer where the file holds no values of the kernel.
-fn values_fault(alloc: Global) -> Result<Answer, NoMemory>
-    ensures status { IfOk result (λ answer. answer.status ≡ Status.Values) }
-    ensures text { IfOk result (λ answer. answer.text.items ≡ values_fault_text) }
-    ensures none { IfOk result (λ answer. file_items answer.table ≡ None) }
-{
-    Ok(Answer {
-        status: Status::Values,
-        text: Vec::from_slice(alloc, b"values fault\n")?,
-        table: None,
-    })
-}
 
 // The labels of a graph's output elements.
 fn output_labels(alloc: Global, graph: &Graph) -> Result<Vec<Label>, NoMemory>

@@ -2,6 +2,7 @@
 //! `said` what a status means.
 ghost use Rattle.pebble_cli.specs.AnswerLaws.{OneAnswer, SomeAnswer, WordsAreInLimits, NoFaultIsAnAnswer, TablesAreOfWriters};
 ghost use Rattle.pebble_cli.specs.AnswerLaws.{UsageOnly, UsageAlways, KernelOnly, KernelAlways, TooSmallOnly, TooSmallAlways, LastOnly, LastAlways};
+ghost use Rattle.pebble_cli.specs.AnswerLaws.{CodeOnly, CodeAlways};
 
 /// All answers to the same words, input and file have one status: of a refusal in any case, of a command's own answer where the desk tells
 /// the file that it reads.
@@ -35,6 +36,13 @@ pub fn usage_answers()
 pub fn kernel_answers()
     ensures only { KernelOnly }
     ensures always { KernelAlways }
+{}
+
+/// Code stands exactly where the command works on code and the input is none: its bad line is printed, or 0 where it is longer than
+/// 20,000,000 bytes.
+pub fn code_answers()
+    ensures only { CodeOnly }
+    ensures always { CodeAlways }
 {}
 
 /// TooSmall stands exactly where the command has slots, works on an accepted kernel, and its slots are at most the degree of the graph. The

@@ -57,15 +57,15 @@ fn number(low: u32, high: u32, word: &str) -> Option<u32>
 }
 
 /// The command that the words spell: `plan S TABLE` or `plan S TABLE BUDGET`, with S from 1 to 64 and BUDGET from 0 to 150,000 in plain
-/// decimal and TABLE any word that is not empty; `run VALUES`, with VALUES any word that is not empty; or `graph`. All other words spell
-/// none. Without a BUDGET it is 20,000.
+/// decimal and TABLE any word that is not empty; `run VALUES` or `exec VALUES`, with VALUES any word that is not empty; or `graph`. All
+/// other words spell none. Without a BUDGET it is 20,000.
 pub fn command(words: &[String]) -> Option<Command>
     ensures value { result ≡ asked_by words.now }
     ensures limits { IfSome result IsInLimits }
 {
     match words {
         [name] => graph_command(name.as_str()),
-        [name, values] => run_command(name.as_str(), values.as_str()),
+        [name, values] => values_command(name.as_str(), values.as_str()),
         [name, slots, table] => plan_command(name.as_str(), slots.as_str(), table.as_str()),
         [name, slots, table, budget] => budgeted_plan_command(
             name.as_str(),
@@ -90,14 +90,20 @@ fn graph_command(name: &str) -> Option<Command>
 }
 
 // The command of two words.
-fn run_command(name: &str, values: &str) -> Option<Command>
+fn values_command(name: &str, values: &str) -> Option<Command>
     ensures value { result ≡ command (name.now ∷ values.now ∷ []) }
     ensures limits { IfSome result IsInLimits }
 {
-    if name != "run" || values.is_empty() {
+    if values.is_empty() {
         return None;
     }
-    Some(Command::Run)
+    if name == "run" {
+        Some(Command::Run)
+    } else if name == "exec" {
+        Some(Command::Exec)
+    } else {
+        None
+    }
 }
 
 // The command of three words.

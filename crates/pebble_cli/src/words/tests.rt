@@ -26,6 +26,8 @@ fn commands(rt: HostRuntime) -> Result<(), Fail> {
     }
     let run = words(rt.alloc(), "run v")?;
     assert_eq!(rt; command(&run), Some(Command::Run));
+    let exec = words(rt.alloc(), "exec v")?;
+    assert_eq!(rt; command(&exec), Some(Command::Exec));
     let graph = words(rt.alloc(), "graph")?;
     assert_eq!(rt; command(&graph), Some(Command::Graph));
     let others = [
@@ -42,6 +44,8 @@ fn commands(rt: HostRuntime) -> Result<(), Fail> {
         "check 2 t 0",
         "run",
         "run v w",
+        "exec",
+        "exec v w",
         "graph g",
         "",
     ];

@@ -1,5 +1,7 @@
 -- The answer of each command.
-use Rattle.std.proofs.Common.{◌≡◌, Err, rules}
+use Rattle.std.proofs.Common.{◌≡◌, ◌∙◌, Err, rules, sym, ap}
+use Rattle.pebble_cli.specs.declared.commands.Subject.TheVariants.{InputKernel, InputCode}
+use Rattle.pebble_cli.specs.Commands.{subject}
 use Rattle.pebble_cli.proofs.KernelAnswers.{faulty_answers, planned_answers, ran_answers, drawn_answers, ran_fault}
 use Rattle.pebble_cli.proofs.prepare.kernel_answer.Goals as goal
 
@@ -27,3 +29,8 @@ pub returns-in-Graph-clause-answers : goal.returns-in-Graph-clause-answers
 returns-in-Graph-clause-answers g c = λ input e.
     drawn_answers c.graph_answer.result c.args.command input c.args.text.now (g.D.Desk.file c.args.desk.now) c.in-Graph.is e
     (c.graph_answer.ensures.answers c.args.text.now c.in_ok-accepted.accepted.kernel c.in_ok-accepted.ensures.accepted)
+
+pub unreachable-requires : goal.unreachable-requires
+unreachable-requires g c =
+    let none : InputCode ≡ InputKernel = sym (ap subject c.in-Exec.is) ∙ c.requires.kernel in
+    absurd (cc)

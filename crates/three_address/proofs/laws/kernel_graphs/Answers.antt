@@ -1,5 +1,6 @@
 -- The laws of the graphs of kernels, as the lemmas show them.
 use Rattle.three_address.proofs.KernelGraphLaws.{IsGraph-graph_of, IsLabelled-graph_of, outputs-graph_of, fault_of-graph_of, graph_of-walk}
+use Rattle.three_address.proofs.SmallConstants.{constants_are_small}
 use Rattle.three_address.proofs.laws.kernel_graphs.Goals as goal
 
 pub returns-clause-graphs : goal.returns-clause-graphs
@@ -16,3 +17,6 @@ returns-clause-faults c = fault_of-graph_of
 
 pub returns-clause-walk : goal.returns-clause-walk
 returns-clause-walk c = graph_of-walk
+
+pub returns-clause-constants : goal.returns-clause-constants
+returns-clause-constants c = constants_are_small

@@ -1,10 +1,13 @@
 -- What the values of the file, and the run on them, say of the answer.
 use Rattle.std.proofs.Common.{◌≡◌, Err, ℤ, List, length, sym, ap, ◌∙◌, subst, arith}
+use Rattle.kernel_ast.specs.declared.tree.DeclKind.TheVariants.{Input}
+use Rattle.kernel_ast.specs.Labels.{labels_of}
 use Rattle.source_machine.specs.RunEnds as ends
 use Rattle.source_machine.specs.RunEnds.{IsRun}
 use Rattle.values_text.specs.Values.{Spells}
 use Rattle.pebble_cli.proofs.Accepting.{faultless_from_graph}
-use Rattle.pebble_cli.proofs.Running.{few_values, no_list, wrong_count, outputs_counted, wrong_values, right_values}
+use Rattle.pebble_cli.proofs.Running.{wrong_count, outputs_counted, wrong_values, right_values}
+use Rattle.pebble_cli.proofs.ValuesFiles.{few_values, no_list}
 use Rattle.pebble_cli.proofs.answer.run.values_answer.Goals as goal
 
 pub returns-in-Err-Shape : goal.returns-in-Err-Shape
@@ -12,7 +15,7 @@ returns-in-Err-Shape c =
     let none = c.in-Err-Shape.ensures.shape (ap Err c.in-Err-Shape.field-0-is) in
     let answer = c.values_fault.ensures in
     wrong_values c.values_fault.result c.args.accepted.now.kernel c.args.accepted.now.graph c.args.bytes.now answer.status answer.text answer.none
-    (no_list c.args.accepted.now.kernel c.args.bytes.now none)
+    (no_list (length (labels_of Input c.args.accepted.now.kernel.decls)) c.args.bytes.now none)
 
 pub run-requires : goal.run-requires
 run-requires c =

@@ -1,0 +1,31 @@
+//! Laws of the answers of `exec`, and of what it makes of the output of `plan`.
+ghost use Rattle.pebble_cli.specs.CodeInputs.{OneCode, OneCodeFault, NoFaultOfCode, CodeOrFault};
+ghost use Rattle.pebble_cli.specs.ExecLaws.{ExecStatuses, DoneWhereRun, FaultWhereEmpty, ValuesWhereWrong, PlansReadBack, PlansRunAsSources};
+ghost use Rattle.pebble_cli.specs.ValuesFiles.{HoldsOrNot};
+
+/// Each input has exactly one of two: it reads as one code, or it has one line that is printed: its bad line, or 0 where it is longer than
+/// 20,000,000 bytes.
+pub fn code_or_fault()
+    ensures once { OneCode }
+    ensures one_fault { OneCodeFault }
+    ensures apart { NoFaultOfCode }
+    ensures always { CodeOrFault }
+{}
+
+/// `exec` answers Code, Done, ExecFault or Values. To an input that is a code it answers Done exactly where the file holds a value for each
+/// input and the run on them comes to an end, ExecFault exactly where the run reads what is empty, and Values exactly where the file holds
+/// no such values; each file does one of the two.
+pub fn exec_answers()
+    ensures statuses { ExecStatuses }
+    ensures done { DoneWhereRun }
+    ensures fault { FaultWhereEmpty }
+    ensures values { ValuesWhereWrong }
+    ensures always { HoldsOrNot }
+{}
+
+/// What `plan` prints of a kernel is a code, where it has at most 20,000,000 bytes: on each values file of the kernel `exec` prints of it
+/// what `run` prints of the kernel, and then the printed cost as the number of transfers.
+pub fn plans_run_as_sources()
+    ensures reads { PlansReadBack }
+    ensures same { PlansRunAsSources }
+{}
