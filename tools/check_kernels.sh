@@ -1,5 +1,5 @@
 #!/bin/sh
-# Plans each kernel of kernels/ with three numbers of slots, prints its graph and runs it on some values, and checks the report, the code,
+# Plans each kernel of kernels/ with three numbers of slots, has the program check the table that it wrote, prints the kernel's graph and runs it on some values, and checks the report, the code,
 # the table, the outputs, the graph and the exit statuses against tools/run_code.py, and docs/KERNELS.md and the tests of
 # crates/worked_kernels against the kernels. The exit status is 0 where all agrees, or where there is no python3 to check with. PEBBLE
 # names another program than the one at the top of the repository.
@@ -22,6 +22,11 @@ for kernel in "$here"/kernels/*.kernel; do
         "$pebble" plan "$slots" "$folder/table" 0 <"$kernel" >"$folder/output"
         status=$?
         python3 "$run_code" check "$kernel" "$folder/output" "$folder/table" "$slots" "$status" || result=1
+        bound=$(sed -n 's/^; bound //p' "$folder/output")
+        if [ -n "$bound" ] && [ "$("$pebble" check "$slots" "$folder/table" <"$kernel")" != "accepted bound $bound" ]; then
+            echo "$kernel: with $slots slots the table of bound $bound is not accepted"
+            result=1
+        fi
         rm -f "$folder/table"
     done
     "$pebble" graph <"$kernel" >"$folder/output"

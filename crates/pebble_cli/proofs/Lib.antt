@@ -2,6 +2,8 @@
 pub mod EarlyEnds
 pub mod Accepting
 pub mod AnswerLaws
+pub mod CheckKept
+pub mod CheckStatuses
 pub mod CommandLaws
 pub mod Delivering
 pub mod FirstPlans
@@ -15,5 +17,6 @@ pub mod RunKept
 pub mod Running
 pub mod SomePlans
 pub mod SubjectAnswers
+pub mod TableFiles
 pub mod ToldBytes
 pub mod WordLimits

@@ -22,7 +22,7 @@ use Rattle.pebble_cli.proofs.Accepting.{accepted_once}
 use Rattle.pebble_cli.proofs.LastAnswers.{IsKept, HasLast, AreKept}
 
 -- a file that tells bytes is not missing
-not_missing : (file : Option (Option (List ℕ))) (bytes : List ℕ) → TellsFile file bytes → file ≡ Some None → ⊥
+pub not_missing : (file : Option (Option (List ℕ))) (bytes : List ℕ) → TellsFile file bytes → file ≡ Some None → ⊥
 not_missing None bytes held e = cc
 not_missing (Some None) bytes held e = held
 not_missing (Some (Some known)) bytes held e = cc
@@ -53,7 +53,7 @@ values_of text k j g h bytes held values a b same given =
     subst (λ z. IsValuesFile j z values) same (subst (λ z. IsValuesFile z bytes values) (accepted_once text k j g h a b).0 given)
 
 -- the bytes of a file that is told
-told_bytes : (file : Option (Option (List ℕ))) (held : Option (List ℕ)) (some others : List ℕ) → file ≡ Some held → TellsFile file some → TellsFile file others → some ≡ others
+pub told_bytes : (file : Option (Option (List ℕ))) (held : Option (List ℕ)) (some others : List ℕ) → file ≡ Some held → TellsFile file some → TellsFile file others → some ≡ others
 told_bytes None held some others e a b = absurd cc
 told_bytes (Some None) held some others e a b = absurd a
 told_bytes (Some (Some known)) held some others e a b = sym a ∙ b
@@ -94,7 +94,7 @@ values_or_not kernel bytes = elim (cases_lt 1000000 (length bytes)) [
 ]
 
 -- the bytes of a file that is not missing
-bytes_of : (file : Option (Option (List ℕ))) → (file ≡ Some None → ⊥) → (bytes : List ℕ) × TellsFile file bytes
+pub bytes_of : (file : Option (Option (List ℕ))) → (file ≡ Some None → ⊥) → (bytes : List ℕ) × TellsFile file bytes
 bytes_of None there = ([], tt)
 bytes_of (Some None) there = absurd (there refl)
 bytes_of (Some (Some known)) there = (known, refl)

@@ -1,17 +1,22 @@
 -- The numbers of a command that words spell are in range.
-use Rattle.std.proofs.Common.{◌≡◌, ℕ, ◌≤◌, Bool, true, false, cond, List, [], ◌∷◌, Option, Some, None, refl, subst, arith}
+use Rattle.std.proofs.Common.{◌≡◌, ◌⊎◌, ℕ, ◌≤◌, Bool, true, false, cond, List, [], ◌∷◌, Option, Some, None, inl, inr, refl, subst, arith}
 use Rattle.std.proofs.lemmas.Bool.{and_parts, leb-true}
 use Rattle.std.specs.Prelude.{codes}
 use Rattle.std.specs.Str.{bytes_eq}
 use Rattle.pebble_cli.specs.declared.commands.Command.{Command}
-use Rattle.pebble_cli.specs.declared.commands.Command.TheVariants.{Plan, Run, Graph}
+use Rattle.pebble_cli.specs.declared.commands.Command.TheVariants.{Plan, Check, Run, Graph}
 use Rattle.pebble_cli.specs.AnswerLaws.{WordsAreInLimits}
-use Rattle.pebble_cli.specs.Words.{number, plan_command, run_command, digits_after, default_budget, IsInLimits}
+use Rattle.pebble_cli.specs.Words.{number, plan_command, check_command, run_command, digits_after, default_budget, IsInLimits}
 
 -- a choice that gives something passed its test
 chosen : {A : Type 0} (test : Bool) (choice : Option A) (found : A) → cond test choice None ≡ Some found → (test ≡ true) × (choice ≡ Some found)
 chosen true choice found e = (refl, e)
 chosen false choice found e = absurd (cc)
+
+-- a choice that gives something passed its test, or the other choice gave it
+chosen_or : {A : Type 0} (test : Bool) (choice other : Option A) (found : A) → cond test choice other ≡ Some found → (choice ≡ Some found) ⊎ (other ≡ Some found)
+chosen_or true choice other found e = inl e
+chosen_or false choice other found e = inr e
 
 -- a number lies between its limits
 number_in_range : (low high : ℕ) (word : List ℕ) (n : ℕ) → number low high word ≡ Some n → (low ≤ n) × (n ≤ high)
@@ -36,6 +41,13 @@ plan_in_limits (Some slots) (c ∷ cs) (Some budget) asked few none e =
     let range = few slots refl in
     subst IsInLimits same (range.0, range.1, none budget refl)
 
+check_in_limits : (slots : Option ℕ) (table : List ℕ) (asked : Command) → ((n : ℕ) → slots ≡ Some n → (1 ≤ n) × (n ≤ 64)) → check_command slots table ≡ Some asked → IsInLimits asked
+check_in_limits None table asked few e = absurd (cc)
+check_in_limits (Some slots) [] asked few e = absurd (cc)
+check_in_limits (Some slots) (c ∷ cs) asked few e =
+    let same : Check (record { slots = slots }) ≡ asked = cc in
+    subst IsInLimits same (few slots refl)
+
 pub words_are_in_limits : WordsAreInLimits
 words_are_in_limits [] asked e = absurd (cc)
 words_are_in_limits (name ∷ []) asked e =
@@ -44,8 +56,10 @@ words_are_in_limits (name ∷ []) asked e =
     subst IsInLimits same tt
 words_are_in_limits (name ∷ values ∷ []) asked e = run_in_limits values asked (chosen (bytes_eq name (codes "run")) (run_command values) asked e).1
 words_are_in_limits (name ∷ slots ∷ table ∷ []) asked e =
-    plan_in_limits (number 1 64 slots) table (Some default_budget) asked (number_in_range 1 64 slots) (λ n is. let same : default_budget ≡ n = cc in omega (arith, same))
-    (chosen (bytes_eq name (codes "plan")) (plan_command (number 1 64 slots) table (Some default_budget)) asked e).1
+    elim (chosen_or (bytes_eq name (codes "plan")) (plan_command (number 1 64 slots) table (Some default_budget)) _ asked e) [
+      | inl plan ↦ plan_in_limits (number 1 64 slots) table (Some default_budget) asked (number_in_range 1 64 slots) (λ n is. let same : default_budget ≡ n = cc in omega (arith, same)) plan
+      | inr other ↦ check_in_limits (number 1 64 slots) table asked (number_in_range 1 64 slots) (chosen (bytes_eq name (codes "check")) (check_command (number 1 64 slots) table) asked other).1
+    ]
 words_are_in_limits (name ∷ slots ∷ table ∷ budget ∷ []) asked e =
     plan_in_limits (number 1 64 slots) table (number 0 150000 budget) asked (number_in_range 1 64 slots) (λ n is. (number_in_range 0 150000 budget n is).1)
     (chosen (bytes_eq name (codes "plan")) (plan_command (number 1 64 slots) table (number 0 150000 budget)) asked e).1

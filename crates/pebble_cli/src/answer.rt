@@ -4,6 +4,7 @@
 use crate::status::Status;
 use comp_graph::NoMemory;
 
+pub mod check;
 pub mod graph;
 pub mod kernel_fault;
 pub mod plan;

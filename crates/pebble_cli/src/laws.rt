@@ -2,6 +2,7 @@
 ghost use Rattle.pebble_cli.specs.Accepted.{AcceptedOnce, OneKernelFault, NoFaultOfAccepted, AcceptedOrFault};
 
 pub mod answers;
+pub mod check;
 pub mod graph;
 pub mod plan;
 pub mod run;
