@@ -1,7 +1,8 @@
 #!/bin/sh
-# Measures the program on the largest kernels: of 256 vertices, of 65,536 bytes, and of 65,533 turns; and on code of 150,000 operations, which
-# is more than any plan has. Prints the mean time of a run and, where /usr/bin/time tells it, the most memory of one. It checks nothing and
-# is no part of the gate. PEBBLE names another program.
+# Measures the program on the largest kernels: of 256 vertices, of 65,536 bytes, and of 65,533 turns; on code of 150,000 operations, which
+# is more than any plan has; and the check of a table against the plan that makes it, with 150,000 rows of a kernel of 100 vertices. Prints
+# the mean time of a run and, where /usr/bin/time tells it, the most memory of one. It checks nothing and is no part of the gate. PEBBLE
+# names another program.
 here=$(CDPATH= cd -- "$(dirname -- "$0")/.." && pwd) || exit 1
 pebble=${PEBBLE:-$here/pebble}
 runs=${RUNS:-20}
@@ -55,6 +56,17 @@ most_lines() {
     }'
 }
 
+# 16 inputs and 84 operations, of which each reads the vertex before it and one far back, so that six slots are too few to keep what is read.
+hundred_vertices() {
+    awk 'function name(j) { return j < 16 ? "x[" j "]" : "t" j - 16 }
+    BEGIN {
+        print "kernel hundred_vertices {"; print "in x[16];"; print "out y;"
+        for (k = 0; k < 84; k++) print "tmp t" k ";"
+        for (k = 0; k < 84; k++) print "t" k " = " name((7 * k + 84) % (16 + k)) (k % 2 ? " * " : " + ") name(15 + k) ";"
+        print "y = t83;"; print "}"
+    }'
+}
+
 # Runs the program with these words on the kernel or the code, named first, and prints what it took.
 measure() {
     name=$1
@@ -89,3 +101,8 @@ most_operations >"$folder/kernel"
 measure most_operations exec "$folder/values"
 most_lines >"$folder/kernel"
 measure most_lines exec "$folder/values"
+# The check is to take at most the time of the plan whose table it reads.
+runs=1
+hundred_vertices >"$folder/kernel"
+measure hundred_vertices plan 6 "$folder/table" 150000
+measure hundred_vertices check 6 "$folder/table"

@@ -1,7 +1,8 @@
 #!/bin/sh
-# Plans each kernel of kernels/ with three numbers of slots, prints its graph, and runs it and its code on ten lists of values. Checks the
-# report, the code, the table, the outputs, the graph and the exit statuses against tools/run_code.py, the outputs of `run` against those of
-# `exec` and, where there is a gcc, of the code as a C function (tools/code_to_c.py), and docs/KERNELS.md and the tests of
+# Plans each kernel of kernels/ with three numbers of slots, has the program check the tables that it wrote, prints its graph, and runs it
+# and its code on ten lists of values. Checks the report, the code, the table, the outputs, the graph and the exit statuses against
+# tools/run_code.py, the outputs of `run` against those of `exec` and, where there is a gcc, of the code as a C function
+# (tools/code_to_c.py), and docs/KERNELS.md and the tests of
 # crates/worked_kernels against the kernels. The exit status is 0 where all agrees, or where there is no python3 to check with. PEBBLE
 # names another program than the one at the top of the repository.
 here=$(CDPATH= cd -- "$(dirname -- "$0")/.." && pwd) || exit 1
@@ -48,6 +49,11 @@ for kernel in "$here"/kernels/*.kernel; do
         "$pebble" plan "$slots" "$folder/table" 0 <"$kernel" >"$folder/output"
         status=$?
         python3 "$run_code" check "$kernel" "$folder/output" "$folder/table" "$slots" "$status" || result=1
+        bound=$(sed -n 's/^; bound //p' "$folder/output")
+        if [ -n "$bound" ] && [ "$("$pebble" check "$slots" "$folder/table" <"$kernel")" != "accepted bound $bound" ]; then
+            echo "$kernel: with $slots slots the table of bound $bound is not accepted"
+            result=1
+        fi
         rm -f "$folder/table"
         [ "$slots" != "${sizes%% *}" ] || mv "$folder/output" "$folder/code"
     done

@@ -14,8 +14,9 @@ use Rattle.potential_cert.specs.Table.{TableParts, IsRising}
 use Rattle.potential_cert.specs.GameTables.{IsTableOf}
 use Rattle.potential_cert.proofs.Rising.{rising_is_distinct}
 use Rattle.normal_steps.specs.Sound.{IsSound}
-use Rattle.cert_checker.specs.Refusals.{EachRow, IsFirstWithout, IsFirstFall, Passes, place_of_reason, RefusedIsNoTable, StepsHold, FinishHolds}
+use Rattle.cert_checker.specs.Refusals.{EachRow, IsFirstWithout, IsFirstFall, IsRefusal, Passes, PassesBefore, RefusedIsNoTable, StepsHold, FinishHolds}
 use Rattle.cert_checker.specs.declared.refusal.Reason.{Reason}
+use Rattle.cert_checker.specs.declared.refusal.Refused.{Refused}
 use Rattle.cert_checker.specs.declared.refusal.Reason.TheVariants.{Graph, Slots, Weights, Order, Position, Start, Step, Finish}
 use Rattle.potential_cert.proofs.Places.{at_in, in_at, at_below, at_one}
 use Rattle.cert_checker.proofs.RowTests.{EachBefore}
@@ -89,10 +90,6 @@ not_less p q o is less = ap is_lt (sym is) ∙ less
 
 -- ---- reasons in order
 
--- the table gives none of the first n reasons
-abbrev pub PassesBefore : PebbleGame → TableParts → ℕ → Type 0
-PassesBefore g t n = (e : Reason) → place_of_reason e < n → Passes g t e
-
 pub before_order : (g : PebbleGame) (t : TableParts) → Passes g t Graph → Passes g t Slots → Passes g t Weights → PassesBefore g t 3
 before_order g t vertices slots weights Graph l = vertices
 before_order g t vertices slots weights Slots l = slots
@@ -135,8 +132,12 @@ passes_all g t before finish = record {
   };
 }
 
+-- a refusal by its parts
+pub refused_as : (g : PebbleGame) (t : TableParts) (r : Refused) (reason : Reason) (k : ℕ) → r.reason ≡ reason → r.row ≡ k → IsRefusal g t reason k → IsRefusal g t r.reason r.row
+refused_as g t r reason k reason_is row_is is = subst (IsRefusal g t r.reason) (sym row_is) (subst (λ e. IsRefusal g t e k) (sym reason_is) is)
+
 -- a table that gives a reason is none
-fall_refutes : (rows : List Row) (k : ℕ) → IsFirstFall rows k → IsRising precedes rows → ⊥
+pub fall_refutes : (rows : List Row) (k : ℕ) → IsFirstFall rows k → IsRising precedes rows → ⊥
 fall_refutes rows k fall rise =
     let less = row_rise rows rise fall.before k fall.low fall.high (let next = fall.next in omega arith) fall.low_at fall.high_at in
     let falls = fall.falls in

@@ -1,11 +1,11 @@
 //! The check of a table.
-ghost use Rattle.std.specs.Prelude.{◌≡◌, ◌≤◌, length, IfOk, IfErr, MatchOption};
+ghost use Rattle.std.specs.Prelude.{◌≡◌, ◌≤◌, length, IfOk, IfErr, IfSome, IfNone, MatchOption};
 ghost use Rattle.comp_graph.specs.Games.{game_of};
 ghost use Rattle.normal_steps.specs.Sound.{IsSound};
 ghost use Rattle.potential_cert.specs.Table.{IsRising};
 ghost use Rattle.potential_cert.specs.Order.{precedes};
 ghost use Rattle.potential_cert.specs.GameTables.{IsTableOf};
-ghost use Rattle.cert_checker.specs.Refusals.{EachRow, IsFirstWithout, IsFirstFall, IsRefusal, StepsHold, FinishHolds};
+ghost use Rattle.cert_checker.specs.Refusals.{EachRow, IsFirstWithout, IsFirstFall, IsRefusal, PassesBefore, StepsHold, FinishHolds};
 
 use crate::refusal::{Reason, Refused};
 use crate::row_tests::{finish_holds, is_sound, start_holds, steps_hold};
@@ -22,59 +22,58 @@ pub fn check(game: &Game, table: &Table) -> Result<u32, Refused>
     ensures holds { IfOk result (λ bound. IsTableOf (game_of game.now) table.now) }
     ensures refused { IfErr result (λ refused. IsRefusal (game_of game.now) table.now refused.reason refused.row) }
 {
-    let graph = game.graph();
-    let slots = game.slots();
-    let weights = game.weights();
-    if table.vertices != graph.len() {
-        return Err(Refused {
-            reason: Reason::Graph,
-            row: 0,
-        });
+    if let Some(reason) = wrong_number(game, table) {
+        return Err(Refused { reason, row: 0 });
     }
-    if table.slots != slots {
-        return Err(Refused {
-            reason: Reason::Slots,
-            row: 0,
-        });
+    match wrong_rows(game, table) {
+        Some(refused) => Err(refused),
+        None => Ok(table.bound),
+    }
+}
+
+// The first of a table's numbers of vertices and slots and its weights that is not the game's.
+fn wrong_number(game: &Game, table: &Table) -> Option<Reason>
+    ensures none { IfNone result (PassesBefore (game_of game.now) table.now 3) }
+    ensures some { IfSome result (λ reason. IsRefusal (game_of game.now) table.now reason 0) }
+{
+    let weights = game.weights();
+    if table.vertices != game.graph().len() {
+        return Some(Reason::Graph);
+    }
+    if table.slots != game.slots() {
+        return Some(Reason::Slots);
     }
     if table.weights.load != weights.load || table.weights.store != weights.store {
-        return Err(Refused {
-            reason: Reason::Weights,
-            row: 0,
-        });
+        return Some(Reason::Weights);
     }
+    None
+}
+
+// The first reason of its rows and its bound for which a table with the game's numbers is refused, and the least row for it.
+fn wrong_rows(game: &Game, table: &Table) -> Option<Refused>
+    requires few { length table.now.rows ≤ 4294967295 }
+    requires numbers { PassesBefore (game_of game.now) table.now 3 }
+    ensures none { IfNone result (IsTableOf (game_of game.now) table.now) }
+    ensures some { IfSome result (λ refused. IsRefusal (game_of game.now) table.now refused.reason refused.row) }
+{
     let rows: &[Row] = &table.rows;
+    let bound = table.bound;
     if let Some(row) = first_fall(rows) {
-        return Err(Refused {
-            reason: Reason::Order,
-            row,
-        });
+        return Some(Refused::new(Reason::Order, row));
     }
     if let Some(row) = first_unsound(game, rows) {
-        return Err(Refused {
-            reason: Reason::Position,
-            row,
-        });
+        return Some(Refused::new(Reason::Position, row));
     }
-    if !start_holds(game, rows, table.bound) {
-        return Err(Refused {
-            reason: Reason::Start,
-            row: 0,
-        });
+    if !start_holds(game, rows, bound) {
+        return Some(Refused::new(Reason::Start, 0));
     }
-    if let Some(row) = first_bad_steps(game, rows, table.bound) {
-        return Err(Refused {
-            reason: Reason::Step,
-            row,
-        });
+    if let Some(row) = first_bad_steps(game, rows, bound) {
+        return Some(Refused::new(Reason::Step, row));
     }
-    if let Some(row) = first_bad_finish(game, rows, table.bound) {
-        return Err(Refused {
-            reason: Reason::Finish,
-            row,
-        });
+    if let Some(row) = first_bad_finish(game, rows, bound) {
+        return Some(Refused::new(Reason::Finish, row));
     }
-    Ok(table.bound)
+    None
 }
 
 // The first row that does not come after the one before it.

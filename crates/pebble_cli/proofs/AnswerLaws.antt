@@ -5,7 +5,7 @@ use Rattle.comp_graph.specs.Dags.{degree}
 use Rattle.comp_graph.specs.Graphs.{GraphParts, dag_of}
 use Rattle.kernel_ast.specs.KernelParts.{KernelParts}
 use Rattle.pebble_cli.specs.declared.commands.Command.{Command}
-use Rattle.pebble_cli.specs.declared.commands.Command.TheVariants.{Plan, Run, Exec, Graph}
+use Rattle.pebble_cli.specs.declared.commands.Command.TheVariants.{Plan, Check, Run, Exec, Graph}
 use Rattle.pebble_cli.specs.declared.commands.Subject.{Subject}
 use Rattle.pebble_cli.specs.declared.commands.Subject.TheVariants.{InputKernel, InputCode}
 use Rattle.pebble_cli.specs.declared.status.Status.{Status}
@@ -20,6 +20,7 @@ use Rattle.pebble_cli.specs.Refusals.{IsUsage, IsFaulty, IsTooSmall, usage_text,
 use Rattle.pebble_cli.specs.Status.{is_last}
 use Rattle.pebble_cli.specs.Words.{command, IsInLimits}
 use Rattle.pebble_cli.proofs.Accepting.{accepted_once, accepted_or_fault, no_fault_of_accepted}
+use Rattle.pebble_cli.proofs.CheckKept.{check_kept}
 use Rattle.pebble_cli.proofs.CodeInputs.{no_fault_of_code, code_or_fault}
 use Rattle.pebble_cli.proofs.ExecKept.{exec_kept}
 use Rattle.pebble_cli.proofs.GraphKept.{graph_kept}
@@ -32,6 +33,7 @@ use Rattle.pebble_cli.proofs.WordLimits.{words_are_in_limits}
 -- what is shown of the last answers of each command
 pub last_kept : (asked : Command) → AreKept asked
 last_kept (Plan asked) = plan_kept asked
+last_kept (Check asked) = check_kept asked
 last_kept Run = run_kept
 last_kept Exec = exec_kept
 last_kept Graph = graph_kept
@@ -225,6 +227,7 @@ too_small_only command input file status printed table (last_answer asked is k) 
 -- a command in its limits has at least one slot, if it has slots
 some_slots : (asked : Command) (slots : ℕ) → IsInLimits asked → slots_of asked ≡ Some slots → 0 < slots
 some_slots (Plan asked) slots limits has = let same : asked.slots ≡ slots = cc in omega (arith, limits.0, same)
+some_slots (Check asked) slots limits has = let same : asked.slots ≡ slots = cc in omega (arith, limits.0, same)
 some_slots Run slots limits has = absurd (cc)
 some_slots Exec slots limits has = absurd (cc)
 some_slots Graph slots limits has = absurd (cc)

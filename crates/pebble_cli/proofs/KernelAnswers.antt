@@ -1,21 +1,25 @@
 -- How what the parts of the top call make becomes the answer of a command to its kernel.
-use Rattle.std.proofs.Common.{◌≡◌, ◌⊎◌, ℕ, true, List, Option, Some, Result, Ok, Err, inl, inr, refl, sym, subst}
-use Rattle.comp_graph.specs.Graphs.{GraphParts}
+use Rattle.std.proofs.Common.{◌≡◌, ◌⊎◌, ◌<◌, ℕ, true, List, Option, Some, Result, Ok, Err, inl, inr, refl, sym, subst}
+use Rattle.comp_graph.specs.Dags.{degree}
+use Rattle.comp_graph.specs.Graphs.{GraphParts, dag_of}
 use Rattle.kernel_ast.specs.KernelParts.{KernelParts}
 use Rattle.pebble_cli.specs.declared.answer.Answer.{Answer}
 use Rattle.pebble_cli.specs.declared.answer.EarlyEnd.{EarlyEnd}
 use Rattle.pebble_cli.specs.declared.answer.EarlyEnd.TheVariants.{Refused, ReadFault, NoMemory}
+use Rattle.pebble_cli.specs.declared.commands.Checking.{Checking}
 use Rattle.pebble_cli.specs.declared.commands.Command.{Command}
-use Rattle.pebble_cli.specs.declared.commands.Command.TheVariants.{Plan, Run, Graph}
+use Rattle.pebble_cli.specs.declared.commands.Command.TheVariants.{Plan, Check, Run, Graph}
 use Rattle.pebble_cli.specs.declared.commands.Planning.{Planning}
 use Rattle.pebble_cli.specs.Accepted.{IsAccepted}
 use Rattle.pebble_cli.specs.Answers.{Answers, faulty_kernel, too_few_slots, last_answer, IsAdmitted}
+use Rattle.pebble_cli.specs.CheckAnswers.{Checks}
 use Rattle.pebble_cli.specs.Commands.{subject, kernel_text, reads_file}
 use Rattle.pebble_cli.specs.GraphAnswers.{IsDrawn}
 use Rattle.pebble_cli.specs.MadeAnswers.{Meets, IfRefused, IfAnswer}
 use Rattle.pebble_cli.specs.PlanAnswers.{IsPlanned}
 use Rattle.pebble_cli.specs.Refusals.{IsFaulty, IsTooSmall}
 use Rattle.pebble_cli.specs.RunAnswers.{Runs}
+use Rattle.pebble_cli.proofs.CheckKept as to_check
 use Rattle.pebble_cli.proofs.RunKept.{admits}
 
 -- the text of the kernel in the input is the input
@@ -68,6 +72,21 @@ planned_answers r command asked input text file is e h = subst (λ k. IsText k i
         each a (inl small) = too_few_slots (Plan asked) text asked.slots refl e refl small
         each a (inr planned) = last_answer (Plan asked) refl (subst (λ t. Meets (IsPlanned asked t) a) same planned)
 
+pub checked_answers : (r : Result Answer EarlyEnd) (command : Command) (asked : Checking) (input text : List ℕ) (file : Option (Option (List ℕ)))
+    → command ≡ Check asked → IsText command input text
+    → IfAnswer r (λ a. Meets (IsTooSmall asked.slots text) a ⊎ Meets (Checks asked text file) a) → IfAnswer r (Meets (Answers (Some command) input file))
+checked_answers r command asked input text file is e h = subst (λ k. IsText k input text → IfAnswer r (Meets (Answers (Some k) input file))) (sym is) at e
+  where
+    at : IsText (Check asked) input text → IfAnswer r (Meets (Answers (Some (Check asked)) input file))
+    at e = more_of r (λ a. Meets (IsTooSmall asked.slots text) a ⊎ Meets (Checks asked text file) a) (Meets (Answers (Some (Check asked)) input file)) each h
+      where
+        same : text ≡ input
+        same = cc
+
+        each : (a : Answer) → Meets (IsTooSmall asked.slots text) a ⊎ Meets (Checks asked text file) a → Meets (Answers (Some (Check asked)) input file) a
+        each a (inl small) = too_few_slots (Check asked) text asked.slots refl e refl small
+        each a (inr checked) = last_answer (Check asked) refl (subst (λ t. Meets (Checks asked t file) a) same checked)
+
 pub ran_answers : (r : Result Answer EarlyEnd) (command : Command) (input text : List ℕ) (file : Option (Option (List ℕ)))
     → command ≡ Run → IsText command input text → IfAnswer r (Meets (Runs text file)) → IfAnswer r (Meets (Answers (Some command) input file))
 ran_answers r command input text file is e h = subst (λ k. IsText k input text → IfAnswer r (Meets (Answers (Some k) input file))) (sym is) at e
@@ -91,3 +110,11 @@ ran_fault command input text kernel graph is e accepted = subst (λ k. IsText k 
   where
     at : IsText Run input text → (reads_file (Some Run) ≡ true) × IsAdmitted Run input
     at e = let same : text ≡ input = cc in (refl, admits input kernel graph (subst (λ t. IsAccepted t kernel graph) same accepted))
+
+-- `check` reads its file only where the kernel is accepted and the slots are enough
+pub checked_fault : (command : Command) (asked : Checking) (input text : List ℕ) (kernel : KernelParts) (graph : GraphParts) → command ≡ Check asked → IsText command input text
+    → IsAccepted text kernel graph → degree (dag_of graph) < asked.slots → (reads_file (Some command) ≡ true) × IsAdmitted command input
+checked_fault command asked input text kernel graph is e accepted room = subst (λ k. IsText k input text → (reads_file (Some k) ≡ true) × IsAdmitted k input) (sym is) at e
+  where
+    at : IsText (Check asked) input text → (reads_file (Some (Check asked)) ≡ true) × IsAdmitted (Check asked) input
+    at e = let same : text ≡ input = cc in (refl, to_check.admits asked input kernel graph (subst (λ t. IsAccepted t kernel graph) same accepted) room)

@@ -1,10 +1,12 @@
 -- What the proofs of this crate share.
-pub mod EarlyEnds
 pub mod Accepting
 pub mod AnswerLaws
+pub mod CheckKept
+pub mod CheckStatuses
 pub mod CodeInputs
 pub mod CommandLaws
 pub mod Delivering
+pub mod EarlyEnds
 pub mod ExecKept
 pub mod ExecLaws
 pub mod Executing
@@ -21,6 +23,7 @@ pub mod RunKept
 pub mod Running
 pub mod SomePlans
 pub mod SubjectAnswers
+pub mod TableFiles
 pub mod ToldBytes
 pub mod ValuesFiles
 pub mod WordLimits

@@ -9,7 +9,7 @@ use Rattle.pebble_cli.specs.declared.answer.Answer.{Answer}
 use Rattle.pebble_cli.specs.declared.answer.EarlyEnd.{EarlyEnd}
 use Rattle.pebble_cli.specs.declared.answer.EarlyEnd.TheVariants.{Refused, ReadFault, NoMemory}
 use Rattle.pebble_cli.specs.declared.commands.Command.{Command}
-use Rattle.pebble_cli.specs.declared.commands.Command.TheVariants.{Plan, Run, Exec, Graph}
+use Rattle.pebble_cli.specs.declared.commands.Command.TheVariants.{Plan, Check, Run, Exec, Graph}
 use Rattle.pebble_cli.specs.declared.commands.Subject.TheVariants.{InputKernel, InputCode}
 use Rattle.pebble_cli.specs.Answers.{Answers, usage, faulty_kernel, no_code, last_answer, IsAdmitted, code_input}
 use Rattle.pebble_cli.specs.CodeInputs.{IsCodeInput, IsNoCode}
@@ -59,6 +59,7 @@ file_fault command known text before mid now told e same h =
 -- the one command on code
 pub only_exec : (command : Command) → subject command ≡ InputCode → command ≡ Exec
 only_exec (Plan asked) e = absurd (cc)
+only_exec (Check asked) e = absurd (cc)
 only_exec Run e = absurd (cc)
 only_exec Exec e = refl
 only_exec Graph e = absurd (cc)

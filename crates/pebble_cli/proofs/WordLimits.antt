@@ -4,9 +4,9 @@ use Rattle.std.proofs.lemmas.Bool.{and_parts, leb-true}
 use Rattle.std.specs.Prelude.{codes}
 use Rattle.std.specs.Str.{bytes_eq}
 use Rattle.pebble_cli.specs.declared.commands.Command.{Command}
-use Rattle.pebble_cli.specs.declared.commands.Command.TheVariants.{Plan, Run, Exec, Graph}
+use Rattle.pebble_cli.specs.declared.commands.Command.TheVariants.{Plan, Check, Run, Exec, Graph}
 use Rattle.pebble_cli.specs.AnswerLaws.{WordsAreInLimits}
-use Rattle.pebble_cli.specs.Words.{number, plan_command, values_command, digits_after, default_budget, IsInLimits}
+use Rattle.pebble_cli.specs.Words.{number, plan_command, check_command, values_command, digits_after, default_budget, IsInLimits}
 
 -- a choice that gives something passed its test
 chosen : {A : Type 0} (test : Bool) (choice : Option A) (found : A) → cond test choice None ≡ Some found → (test ≡ true) × (choice ≡ Some found)
@@ -41,6 +41,13 @@ plan_in_limits (Some slots) (c ∷ cs) (Some budget) asked few none e =
     let range = few slots refl in
     subst IsInLimits same (range.0, range.1, none budget refl)
 
+check_in_limits : (slots : Option ℕ) (table : List ℕ) (asked : Command) → ((n : ℕ) → slots ≡ Some n → (1 ≤ n) × (n ≤ 64)) → check_command slots table ≡ Some asked → IsInLimits asked
+check_in_limits None table asked few e = absurd (cc)
+check_in_limits (Some slots) [] asked few e = absurd (cc)
+check_in_limits (Some slots) (c ∷ cs) asked few e =
+    let same : Check (record { slots = slots }) ≡ asked = cc in
+    subst IsInLimits same (few slots refl)
+
 pub words_are_in_limits : WordsAreInLimits
 words_are_in_limits [] asked e = absurd (cc)
 words_are_in_limits (name ∷ []) asked e =
@@ -52,8 +59,10 @@ words_are_in_limits (name ∷ values ∷ []) asked e = elim (chosen_or (bytes_eq
   | inr other ↦ values_in_limits Exec asked values tt (chosen (bytes_eq name (codes "exec")) (values_command Exec values) asked other).1
 ]
 words_are_in_limits (name ∷ slots ∷ table ∷ []) asked e =
-    plan_in_limits (number 1 64 slots) table (Some default_budget) asked (number_in_range 1 64 slots) (λ n is. let same : default_budget ≡ n = cc in omega (arith, same))
-    (chosen (bytes_eq name (codes "plan")) (plan_command (number 1 64 slots) table (Some default_budget)) asked e).1
+    elim (chosen_or (bytes_eq name (codes "plan")) (plan_command (number 1 64 slots) table (Some default_budget)) _ asked e) [
+      | inl plan ↦ plan_in_limits (number 1 64 slots) table (Some default_budget) asked (number_in_range 1 64 slots) (λ n is. let same : default_budget ≡ n = cc in omega (arith, same)) plan
+      | inr other ↦ check_in_limits (number 1 64 slots) table asked (number_in_range 1 64 slots) (chosen (bytes_eq name (codes "check")) (check_command (number 1 64 slots) table) asked other).1
+    ]
 words_are_in_limits (name ∷ slots ∷ table ∷ budget ∷ []) asked e =
     plan_in_limits (number 1 64 slots) table (number 0 150000 budget) asked (number_in_range 1 64 slots) (λ n is. (number_in_range 0 150000 budget n is).1)
     (chosen (bytes_eq name (codes "plan")) (plan_command (number 1 64 slots) table (number 0 150000 budget)) asked e).1

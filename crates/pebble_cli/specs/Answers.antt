@@ -6,10 +6,11 @@ use Rattle.comp_graph.specs.Graphs.{GraphParts, dag_of}
 use Rattle.desk_io.specs.Known.{Tells}
 use Rattle.kernel_ast.specs.KernelParts.{KernelParts}
 use Rattle.pebble_cli.specs.declared.commands.Command.{Command}
-use Rattle.pebble_cli.specs.declared.commands.Command.TheVariants.{Plan, Run, Exec, Graph}
+use Rattle.pebble_cli.specs.declared.commands.Command.TheVariants.{Plan, Check, Run, Exec, Graph}
 use Rattle.pebble_cli.specs.declared.commands.Subject.TheVariants.{InputCode}
 use Rattle.pebble_cli.specs.declared.status.Status.{Status}
 use Rattle.pebble_cli.specs.Accepted.{IsAccepted}
+use Rattle.pebble_cli.specs.CheckAnswers.{Checks}
 use Rattle.pebble_cli.specs.CodeInputs.{IsCodeInput, IsNoCode}
 use Rattle.pebble_cli.specs.Commands.{subject, slots_of, kernel_text}
 use Rattle.pebble_cli.specs.ExecAnswers.{Executes}
@@ -22,6 +23,7 @@ use Rattle.scratch_machine.specs.Codes.{CodeParts}
 -- the last answers of each command to an input and a file, as far as the desk tells the file
 abbrev pub LastAnswers : Command → List ℕ → Option (Option (List ℕ)) → Status → List ℕ → Option (List ℕ) → Type 0
 LastAnswers (Plan asked) input file = IsPlanned asked input
+LastAnswers (Check asked) input file = Checks asked input file
 LastAnswers Run input file = Runs input file
 LastAnswers Exec input file = Executes input file
 LastAnswers Graph input file = IsDrawn input

@@ -1,7 +1,7 @@
 -- What each command works on, its slots, and what it does with the file that its words name (this project's convention).
 use Rattle.std.specs.Prelude.{ℕ, Bool, true, false, List, Option, None, Some}
 use Rattle.pebble_cli.specs.declared.commands.Command.{Command}
-use Rattle.pebble_cli.specs.declared.commands.Command.TheVariants.{Plan, Run, Exec, Graph}
+use Rattle.pebble_cli.specs.declared.commands.Command.TheVariants.{Plan, Check, Run, Exec, Graph}
 use Rattle.pebble_cli.specs.declared.commands.Subject.{Subject}
 use Rattle.pebble_cli.specs.declared.commands.Subject.TheVariants.{InputKernel, InputCode}
 
@@ -12,6 +12,7 @@ pub data FileUse : Type 0 where
 -- what the command works on
 abbrev pub subject : Command → Subject
 subject (Plan asked) = InputKernel
+subject (Check asked) = InputKernel
 subject Run = InputKernel
 subject Exec = InputCode
 subject Graph = InputKernel
@@ -19,6 +20,7 @@ subject Graph = InputKernel
 -- the number of its slots, if it has slots
 abbrev pub slots_of : Command → Option ℕ
 slots_of (Plan asked) = Some asked.slots
+slots_of (Check asked) = Some asked.slots
 slots_of Run = None
 slots_of Exec = None
 slots_of Graph = None
@@ -26,6 +28,7 @@ slots_of Graph = None
 -- what it does with the file
 abbrev pub file_use : Command → FileUse
 file_use (Plan asked) = written
+file_use (Check asked) = read
 file_use Run = read
 file_use Exec = read
 file_use Graph = untouched

@@ -2,6 +2,8 @@
 pub mod Accepted
 pub mod AnswerLaws
 pub mod Answers
+pub mod CheckAnswers
+pub mod CheckLaws
 pub mod CodeInputs
 pub mod Commands
 pub mod Deliver

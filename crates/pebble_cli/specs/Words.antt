@@ -6,7 +6,7 @@ use Rattle.std.specs.Char.{is_ascii_digit}
 use Rattle.std.specs.List.{list_all}
 use Rattle.std.specs.Str.{bytes_eq}
 use Rattle.pebble_cli.specs.declared.commands.Command.{Command}
-use Rattle.pebble_cli.specs.declared.commands.Command.TheVariants.{Plan, Run, Exec, Graph}
+use Rattle.pebble_cli.specs.declared.commands.Command.TheVariants.{Plan, Check, Run, Exec, Graph}
 
 -- the number that digits spell, after the digits so far
 abbrev pub digits_after : ℕ → List ℕ → ℕ
@@ -31,6 +31,11 @@ abbrev pub plan_command : Option ℕ → List ℕ → Option ℕ → Option Comm
 plan_command (Some slots) (c ∷ table) (Some budget) = Some (Plan (record { slots = slots; budget = budget }))
 plan_command _ _ _ = None
 
+-- the check, where there are slots, and a table's name that is not empty
+abbrev pub check_command : Option ℕ → List ℕ → Option Command
+check_command (Some slots) (c ∷ table) = Some (Check (record { slots = slots }))
+check_command _ _ = None
+
 -- a command on values, where the name of their file is not empty
 abbrev pub values_command : Command → List ℕ → Option Command
 values_command asked [] = None
@@ -40,15 +45,16 @@ values_command asked (c ∷ values) = Some asked
 abbrev pub default_budget : ℕ
 default_budget = 20000
 
--- the command that the words spell: `plan S TABLE` with 1 to 64 slots, which may name a budget from 0 to 150,000 too, `run VALUES`,
--- `exec VALUES`, or `graph` (this project's convention); `file_word` gives the name of TABLE or VALUES
+-- the command that the words spell: `plan S TABLE` with 1 to 64 slots, which may name a budget from 0 to 150,000 too, `check S TABLE` with 1
+-- to 64 slots, `run VALUES`, `exec VALUES`, or `graph` (this project's convention); `file_word` gives the name of TABLE or VALUES
 abbrev pub command : List (List ℕ) → Option Command
 command (name ∷ []) = if bytes_eq name (codes "graph") then Some Graph else None
 command (name ∷ values ∷ []) =
     if bytes_eq name (codes "run") then values_command Run values
     else (if bytes_eq name (codes "exec") then values_command Exec values else None)
 command (name ∷ slots ∷ table ∷ []) =
-    if bytes_eq name (codes "plan") then plan_command (number 1 64 slots) table (Some default_budget) else None
+    if bytes_eq name (codes "plan") then plan_command (number 1 64 slots) table (Some default_budget)
+    else (if bytes_eq name (codes "check") then check_command (number 1 64 slots) table else None)
 command (name ∷ slots ∷ table ∷ budget ∷ []) =
     if bytes_eq name (codes "plan") then plan_command (number 1 64 slots) table (number 0 150000 budget) else None
 command _ = None
@@ -80,6 +86,7 @@ file_named_by words = file_word (map string_bytes words)
 -- the numbers of a command are in range
 abbrev pub IsInLimits : Command → Type 0
 IsInLimits (Plan asked) = (1 ≤ asked.slots) × (asked.slots ≤ 64) × (asked.budget ≤ 150000)
+IsInLimits (Check asked) = (1 ≤ asked.slots) × (asked.slots ≤ 64)
 IsInLimits Run = Unit {0}
 IsInLimits Exec = Unit {0}
 IsInLimits Graph = Unit {0}

@@ -4,6 +4,7 @@
 use crate::status::Status;
 use comp_graph::NoMemory;
 
+pub mod check;
 pub mod code_fault;
 pub mod exec;
 pub mod graph;

@@ -5,6 +5,8 @@
 pub enum Command {
     /// `plan`: a plan.
     Plan(Planning),
+    /// `check`: whether the table in a file proves its bound.
+    Check(Checking),
     /// `run`: the outputs of the source on the values of a file.
     Run,
     /// `exec`: the outputs of a code on the values of a file.
@@ -20,6 +22,13 @@ pub struct Planning {
     pub slots: u16,
     /// The number of positions that may be expanded, from 0 to 150,000.
     pub budget: u32,
+}
+
+/// What `check` asks for.
+#[derive(Clone, Copy, Debug, PartialEq, Eq)]
+pub struct Checking {
+    /// The number of slots, from 1 to 64.
+    pub slots: u16,
 }
 
 /// What a command works on.
@@ -40,7 +49,9 @@ impl Command {
         ensures { result ≡ subject self }
     {
         match self {
-            Command::Plan(_) | Command::Run | Command::Graph => Subject::InputKernel,
+            Command::Plan(_) | Command::Check(_) | Command::Run | Command::Graph => {
+                Subject::InputKernel
+            }
             Command::Exec => Subject::InputCode,
         }
     }

@@ -17,6 +17,11 @@ const CODE: &str = "slots 2\nwords 2\nin x\nout y 1\nload 0 0\nadd 1 s0 #1\nstor
 /// What `exec` prints of it on the file `5`.
 const EXECUTED: &str = "y = 6\n; transfers 2\n";
 
+/// What `check` prints of the kernel on the file `5`, which is no table, and with too few slots.
+const REFUSED: &str = "refused reason 1 row 0\n";
+
+const TOO_SMALL: &str = "too small needs 2\n";
+
 /// What `graph` prints of the kernel.
 const GRAPH: &str = "vertices 2\ninputs 1\ndegree 1\n0 in x\n1 add v0 #1\nout y v1\n";
 
@@ -27,7 +32,7 @@ const USAGE: &str =
 #[derive(Clone, Copy)]
 struct Row(&'static str, Kind, u32, Status, &'static str);
 
-const ROWS: [Row; 29] = [
+const ROWS: [Row; 37] = [
     Row("run v", Kind::TakeInput, 0, Status::ReadFault, ""),
     Row("run v", Kind::TakeInput, 36, Status::ReadFault, ""),
     Row("run v", Kind::TakeFile, 0, Status::ReadFault, ""),
@@ -45,6 +50,14 @@ const ROWS: [Row; 29] = [
     Row("exec v", Kind::PutOutput, 7, Status::WriteFault, "y = 6\n;"),
     Row("exec v", Kind::PutFile, 0, Status::Done, EXECUTED),
     Row("exec v", Kind::ClearFile, 0, Status::Done, EXECUTED),
+    Row("check 2 t", Kind::TakeInput, 0, Status::ReadFault, ""),
+    Row("check 2 t", Kind::TakeFile, 0, Status::ReadFault, ""),
+    Row("check 2 t", Kind::TakeFile, 1, Status::ReadFault, ""),
+    Row("check 1 t", Kind::TakeFile, 0, Status::TooSmall, TOO_SMALL),
+    Row("check 2 t", Kind::PutOutput, 0, Status::WriteFault, ""),
+    Row("check 2 t", Kind::PutOutput, 3, Status::WriteFault, "ref"),
+    Row("check 2 t", Kind::PutFile, 0, Status::Refused, REFUSED),
+    Row("check 2 t", Kind::ClearFile, 0, Status::Refused, REFUSED),
     Row("graph", Kind::TakeInput, 0, Status::ReadFault, ""),
     Row("graph", Kind::TakeInput, 36, Status::ReadFault, ""),
     Row("graph", Kind::TakeFile, 0, Status::Done, GRAPH),

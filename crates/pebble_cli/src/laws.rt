@@ -2,6 +2,7 @@
 ghost use Rattle.pebble_cli.specs.Accepted.{AcceptedOnce, OneKernelFault, NoFaultOfAccepted, AcceptedOrFault};
 
 pub mod answers;
+pub mod check;
 pub mod exec;
 pub mod graph;
 pub mod plan;

@@ -1,5 +1,7 @@
 //! The game of a graph with so many slots, or the answer that they are too few.
 ghost use Rattle.std.specs.Prelude.{◌≡◌, ◌≢◌, ◌<◌, ◌≤◌, ℕ, List, IfOk, Err, None};
+ghost use Rattle.comp_graph.specs.Dags.{degree};
+ghost use Rattle.comp_graph.specs.Graphs.{dag_of};
 ghost use Rattle.desk_io.specs.Known.{file_items};
 ghost use Rattle.kernel_ast.specs.KernelParts.{KernelParts};
 ghost use Rattle.pebble_cli.specs.Accepted.{IsAccepted};
@@ -39,6 +41,7 @@ pub fn played_game(alloc: Global, graph: Graph, slots: u16) -> Result<Game, Earl
     requires some { 0 < slots }
     requires few { slots ≤ 64 }
     ensures game { IfOk result (λ game. game ≡ game_parts graph slots) }
+    ensures room { IfOk result (λ _. degree (dag_of graph) < slots) }
     ensures refused { (text : List ℕ) (kernel : KernelParts) → IsAccepted text kernel graph →
         IfRefused result (Meets (IsTooSmall slots text)) }
     ensures no_fault { result ≢ Err EarlyEnd.ReadFault }

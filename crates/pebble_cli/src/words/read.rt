@@ -2,7 +2,7 @@
 ghost use Rattle.std.specs.Prelude.{◌≡◌, ◌≤◌, ◌^◌, ◌<◌, true, ◌∷◌, [], length, SomeIff, IfSome, map, string_bytes};
 ghost use Rattle.pebble_cli.specs.Words.{are_digits, is_plain, digits_after, number, command, asked_by, file_named_by, word_at, IsInLimits};
 
-use crate::commands::{Command, Planning};
+use crate::commands::{Checking, Command, Planning};
 
 /// The greatest number of slots.
 const MOST_SLOTS: u32 = 64;
@@ -56,9 +56,9 @@ fn number(low: u32, high: u32, word: &str) -> Option<u32>
     }
 }
 
-/// The command that the words spell: `plan S TABLE` or `plan S TABLE BUDGET`, with S from 1 to 64 and BUDGET from 0 to 150,000 in plain
-/// decimal and TABLE any word that is not empty; `run VALUES` or `exec VALUES`, with VALUES any word that is not empty; or `graph`. All
-/// other words spell none. Without a BUDGET it is 20,000.
+/// The command that the words spell: `plan S TABLE`, `plan S TABLE BUDGET` or `check S TABLE`, with S from 1 to 64 and BUDGET from 0 to
+/// 150,000 in plain decimal and TABLE any word that is not empty; `run VALUES` or `exec VALUES`, with VALUES any word that is not empty; or
+/// `graph`. All other words spell none. Without a BUDGET it is 20,000.
 pub fn command(words: &[String]) -> Option<Command>
     ensures value { result ≡ asked_by words.now }
     ensures limits { IfSome result IsInLimits }
@@ -66,8 +66,8 @@ pub fn command(words: &[String]) -> Option<Command>
     match words {
         [name] => graph_command(name.as_str()),
         [name, values] => values_command(name.as_str(), values.as_str()),
-        [name, slots, table] => plan_command(name.as_str(), slots.as_str(), table.as_str()),
-        [name, slots, table, budget] => budgeted_plan_command(
+        [name, slots, table] => table_command(name.as_str(), slots.as_str(), table.as_str()),
+        [name, slots, table, budget] => plan_command(
             name.as_str(),
             slots.as_str(),
             table.as_str(),
@@ -107,22 +107,30 @@ fn values_command(name: &str, values: &str) -> Option<Command>
 }
 
 // The command of three words.
-fn plan_command(name: &str, slots: &str, table: &str) -> Option<Command>
+fn table_command(name: &str, slots: &str, table: &str) -> Option<Command>
     ensures value { result ≡ command (name.now ∷ slots.now ∷ table.now ∷ []) }
     ensures limits { IfSome result IsInLimits }
 {
-    if name != "plan" || table.is_empty() {
+    if table.is_empty() {
         return None;
     }
     let slots = number(1, MOST_SLOTS, slots)?;
-    Some(Command::Plan(Planning {
-        slots: slots as u16,
-        budget: DEFAULT_BUDGET,
-    }))
+    if name == "plan" {
+        Some(Command::Plan(Planning {
+            slots: slots as u16,
+            budget: DEFAULT_BUDGET,
+        }))
+    } else if name == "check" {
+        Some(Command::Check(Checking {
+            slots: slots as u16,
+        }))
+    } else {
+        None
+    }
 }
 
 // The command of four words.
-fn budgeted_plan_command(name: &str, slots: &str, table: &str, budget: &str) -> Option<Command>
+fn plan_command(name: &str, slots: &str, table: &str, budget: &str) -> Option<Command>
     ensures value { result ≡ command (name.now ∷ slots.now ∷ table.now ∷ budget.now ∷ []) }
     ensures limits { IfSome result IsInLimits }
 {

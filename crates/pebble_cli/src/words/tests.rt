@@ -1,5 +1,5 @@
 use super::read::{command, file_word};
-use crate::commands::{Command, Planning};
+use crate::commands::{Checking, Command, Planning};
 use std::alloc::{AllocError, Global};
 use std::test::Fail;
 
@@ -24,6 +24,9 @@ fn commands(rt: HostRuntime) -> Result<(), Fail> {
         let asked = Command::Plan(Planning { slots, budget });
         assert_eq!(rt; command(&plan), Some(asked));
     }
+    let check = words(rt.alloc(), "check 64 t")?;
+    let asked = Command::Check(Checking { slots: 64 });
+    assert_eq!(rt; command(&check), Some(asked));
     let run = words(rt.alloc(), "run v")?;
     assert_eq!(rt; command(&run), Some(Command::Run));
     let exec = words(rt.alloc(), "exec v")?;
@@ -42,6 +45,11 @@ fn commands(rt: HostRuntime) -> Result<(), Fail> {
         "plan 2 ",
         "plan 2  0",
         "check 2 t 0",
+        "check 65 t",
+        "check 0 t",
+        "check 02 t",
+        "check 2",
+        "check 2 ",
         "run",
         "run v w",
         "exec",

@@ -2,7 +2,7 @@
 use Rattle.std.proofs.Common.{◌≡◌, ◌∙◌, Err, rules, sym, ap}
 use Rattle.pebble_cli.specs.declared.commands.Subject.TheVariants.{InputKernel, InputCode}
 use Rattle.pebble_cli.specs.Commands.{subject}
-use Rattle.pebble_cli.proofs.KernelAnswers.{faulty_answers, planned_answers, ran_answers, drawn_answers, ran_fault}
+use Rattle.pebble_cli.proofs.KernelAnswers.{faulty_answers, planned_answers, checked_answers, ran_answers, drawn_answers, checked_fault, ran_fault}
 use Rattle.pebble_cli.proofs.prepare.kernel_answer.Goals as goal
 
 pub returns-in_err-accepted-clause-answers : goal.returns-in_err-accepted-clause-answers
@@ -15,6 +15,18 @@ pub returns-in-Plan-clause-answers : goal.returns-in-Plan-clause-answers
 returns-in-Plan-clause-answers g c = λ input e.
     planned_answers c.plan_answer.result c.args.command c.in-Plan.asked input c.args.text.now (g.D.Desk.file c.args.desk.now) c.in-Plan.is e
     (c.plan_answer.ensures.answers c.args.text.now c.in_ok-accepted.accepted.kernel c.in_ok-accepted.ensures.accepted)
+
+pub returns-in-Check-clause-answers : goal.returns-in-Check-clause-answers
+returns-in-Check-clause-answers g c = λ input e.
+    checked_answers c.check_graph.result c.args.command c.in-Check.asked input c.args.text.now (g.D.Desk.file c.args.desk.now) c.in-Check.is e
+    (c.check_graph.ensures.answers c.args.text.now c.in_ok-accepted.accepted.kernel c.in_ok-accepted.ensures.accepted)
+
+pub returns-in-Check-clause-fault : goal.returns-in-Check-clause-fault
+returns-in-Check-clause-fault g c = λ input e fault.
+    let met = c.check_graph.ensures.fault fault in
+    let both = checked_fault c.args.command c.in-Check.asked input c.args.text.now c.in_ok-accepted.accepted.kernel c.in_ok-accepted.accepted.graph c.in-Check.is e
+    c.in_ok-accepted.ensures.accepted met.0 in
+    (both.0, both.1, met.1)
 
 pub returns-in-Run-clause-answers : goal.returns-in-Run-clause-answers
 returns-in-Run-clause-answers g c = λ input e.
