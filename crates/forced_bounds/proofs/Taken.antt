@@ -6,6 +6,7 @@ use Rattle.comp_graph.specs.Vertices.{Vertices, ◌∈◌, ◌∉◌, IsWithin, 
 use Rattle.comp_graph.specs.Games.{PebbleGame}
 use Rattle.comp_graph.specs.Dags.{Dag, IsDag}
 use Rattle.pebble_rules.specs.declared.position.Position.{Position}
+use Rattle.std.proofs.lemmas.Nat.{mul-le}
 use Rattle.comp_graph.specs.Sets.{membership, same}
 use Rattle.comp_graph.proofs.Sets.{some_member}
 use Rattle.comp_graph.proofs.DagLaws.{and-true}
@@ -358,3 +359,34 @@ pub is_floor : (g : PebbleGame) (p : Position) (load store stores loads : ℕ) �
     → loads ≡ length (taken g.dag p g.dag.count) → store * stores + load * loads ≡ floor g p
 unfolding floor
 is_floor g p load store stores loads a b d e = cc
+
+-- ---- where the count stops early
+
+one_more : (g : Dag) (p : Position) (n : ℕ) → length (taken g p n) ≤ length (taken g p (suc n))
+one_more g p n = elim (is_apart g p n (taken g p n)) as (λ b. length (taken g p n) ≤ length (cond b (n ∷ taken g p n) (taken g p n))) [ true ↦ omega arith | false ↦ omega arith ]
+
+taken_grows : (g : Dag) (p : Position) (n k : ℕ) → length (taken g p n) ≤ length (taken g p (k + n))
+taken_grows g p n zero =
+    let same : n ≡ 0 + n = omega arith in
+    subst (λ m. length (taken g p n) ≤ length (taken g p m)) same (omega arith)
+taken_grows g p n (suc k) =
+    let before = taken_grows g p n k in
+    let more = one_more g p (k + n) in
+    let same : suc k + n ≡ suc (k + n) = omega arith in
+    subst (λ m. length (taken g p n) ≤ length (taken g p m)) (sym same) (omega (arith, before, more))
+
+-- no more are taken so far than in all
+pub taken_so_far : (g : Dag) (p : Position) (n count : ℕ) (computed met : Vertices) → IsTaken g p n computed met count → n ≤ g.count → count ≤ length (taken g p g.count)
+taken_so_far g p n count computed met is few =
+    let whole : (g.count - n) + n ≡ g.count = omega arith in
+    let more = subst (λ m. length (taken g p n) ≤ length (taken g p m)) whole (taken_grows g p n (g.count - n)) in
+    let many = is.many in
+    omega (arith, more, many)
+
+-- with fewer loads the sum is no more
+pub under_floor : (g : PebbleGame) (p : Position) (load store stores loads : ℕ) → load ≡ g.load → store ≡ g.store → stores ≡ size (difference g.dag.outputs p.blue)
+    → loads ≤ length (taken g.dag p g.dag.count) → store * stores + load * loads ≤ floor g p
+under_floor g p load store stores loads a b d few =
+    let all = is_floor g p load store stores (length (taken g.dag p g.dag.count)) a b d refl in
+    let more = mul-le load loads load (length (taken g.dag p g.dag.count)) (omega arith) few in
+    omega (arith, all, more)

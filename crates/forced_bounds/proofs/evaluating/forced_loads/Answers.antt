@@ -4,7 +4,7 @@ use Rattle.comp_graph.specs.Vertices.{IsWithin, IsOutside}
 use Rattle.comp_graph.specs.Graphs.{dag_of, vertices_of}
 use Rattle.comp_graph.proofs.GraphLaws.{IsDag-dag_of}
 use Rattle.forced_bounds.proofs.SpreadLaws.{outside_part}
-use Rattle.forced_bounds.proofs.Taken.{Why, why_input, why_reads, needs_load, taken_start, taken_at, taken_red, taken_computed, taken_reads, taken_met, taken_apart, taken_unwanted, taken_all}
+use Rattle.forced_bounds.proofs.Taken.{Why, why_input, why_reads, needs_load, taken_start, taken_at, taken_red, taken_computed, taken_reads, taken_met, taken_apart, taken_unwanted, taken_all, taken_so_far}
 use Rattle.forced_bounds.proofs.evaluating.forced_loads.Goals.{then-all_in+then-not-has, else-all_in+then-some_in, else-all_in-via-then-all_in+else-not-has, else-all_in-via-else-all_in, else-all_in+else-some_in+then-has-2+in-Some, else-all_in+else-some_in+then-has-2+in-None, else-all_in+else-some_in+else-has-2}
 use Rattle.forced_bounds.proofs.evaluating.forced_loads.Goals as goal
 
@@ -77,10 +77,20 @@ loop-v-preserved c =
           (taken_unwanted g p v computed met taken c.loop-v.invariant out far unwanted)
     ]
 
-pub returns-clause-value : goal.returns-clause-value
-returns-clause-value c =
+pub returns-then-enough-load-clause-under : goal.returns-then-enough-load-clause-under
+returns-then-enough-load-clause-under c =
+    taken_so_far (dag_of c.args.graph.now) c.args.p.now c.loop-v.v c.loop-v.taken c.loop-v.computed c.loop-v.met c.loop-v.invariant
+    (let few = c.wanted-targets.ensures.top in let less = c.loop-v-test.true in omega arith)
+
+pub returns-clause-exact : goal.returns-clause-exact
+returns-clause-exact c = λ _.
     taken_all (dag_of c.args.graph.now) c.args.p.now c.loop-v.v c.wanted-targets.result.top c.loop-v.taken c.wanted-targets.result.vertices c.loop-v.computed c.loop-v.met c.loop-v.invariant
     (let over = c.loop-v-test.false in omega arith) (let within = c.loop-v.auto.v-end in omega arith) c.wanted-targets.ensures.top c.wanted-targets.ensures.value c.wanted-targets.ensures.below
+
+pub returns-clause-under : goal.returns-clause-under
+returns-clause-under c =
+    taken_so_far (dag_of c.args.graph.now) c.args.p.now c.loop-v.v c.loop-v.taken c.loop-v.computed c.loop-v.met c.loop-v.invariant
+    (let few = c.wanted-targets.ensures.top in let within = c.loop-v.auto.v-end in omega arith)
 
 pub returns-clause-few : goal.returns-clause-few
 returns-clause-few c =
