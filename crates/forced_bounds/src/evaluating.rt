@@ -38,7 +38,7 @@ pub fn floor_below(game: &Game, p: &Position, enough: u32) -> u32
 }
 
 // How many loads are forced: the vertices are gone through in rising number, and one is taken that must become red, cannot without a
-// load, and whose cone meets no cone of one that was taken. `computed` are the vertices so far that can become red without a load, and
+// load, and whose cone meets no cone of one that was taken. The cone of an input is the input. `computed` are the vertices so far that can become red without a load, and
 // each vertex of `met` has a cone that meets one that was taken. The count stops where the loads, at `load` each, cost `enough`.
 fn forced_loads(graph: &Graph, p: &Position, load: u32, enough: u32) -> u16
     requires { load ≤ 16 }
@@ -47,7 +47,7 @@ fn forced_loads(graph: &Graph, p: &Position, load: u32, enough: u32) -> u16
     ensures few { result ≤ 256 }
 {
     let targets = wanted(graph, p);
-    let inputs = graph.in_set();
+    let inputs = graph.inputs();
     let mut computed = p.red;
     let mut met = VertexSet::empty();
     let mut taken: u16 = 0;
@@ -58,8 +58,15 @@ fn forced_loads(graph: &Graph, p: &Position, load: u32, enough: u32) -> u16
         if computed.has(v) {
             continue;
         }
+        if v < inputs {
+            if targets.vertices.has(v) {
+                met = met.with(v);
+                taken += 1;
+            }
+            continue;
+        }
         let operands = read_by(graph, v);
-        if all_in(operands, &computed) && !inputs.has(v) {
+        if all_in(operands, &computed) {
             computed = computed.with(v);
         } else if some_in(operands, &met) {
             met = met.with(v);
