@@ -12,7 +12,7 @@ ghost use Rattle.branch_bound.specs.Frontiers.{IsFrontier, mark_of, store_of, be
 
 use crate::cost_queues::CostQueues;
 use comp_graph::{Game, NoMemory};
-use forced_bounds::floor;
+use forced_bounds::floor_below;
 use normal_steps::{Step, Steps, after, finish};
 use pebble_rules::Position;
 use position_arena::{Head, Rows};
@@ -185,7 +185,7 @@ impl Frontier {
             self.improve(k, head)?;
             return Ok(());
         }
-        let floor = floor(game, &q);
+        let floor = floor_below(game, &q, best.cost - h);
         if h as u64 + floor as u64 >= best.cost as u64 {
             return Ok(());
         }

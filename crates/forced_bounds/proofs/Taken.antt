@@ -1,12 +1,16 @@
 -- What the pass over the vertices has taken. The vertices below n have been looked at.
-use Rattle.std.proofs.Common.{◌≡◌, ℕ, zero, suc, ◌+◌, ◌-◌, ◌*◌, ◌≤◌, ◌<◌, Bool, true, false, not, ◌&&◌, ◌==◌, List, [], ◌∷◌, length, cond, ◌⊎◌, inl, inr, refl, sym, ap, ◌∙◌, subst, arith}
+use Rattle.std.proofs.Common.{◌≡◌, ℕ, zero, suc, ◌+◌, ◌-◌, ◌*◌, ◌≤◌, ◌<◌, Bool, true, false, not, ◌&&◌, ◌==◌, List, [], ◌∷◌, length, cond, ltb, ◌⊎◌, inl, inr, refl, sym, ap, ◌∙◌, subst, arith}
 use Rattle.std.specs.List.{list_any}
 use Rattle.std.specs.FinSet.{empty, contains, insert, union, intersection, difference}
 use Rattle.comp_graph.specs.Vertices.{Vertices, ◌∈◌, ◌∉◌, IsWithin, AllBelow, size}
 use Rattle.comp_graph.specs.Games.{PebbleGame}
 use Rattle.comp_graph.specs.Dags.{Dag, IsDag}
 use Rattle.pebble_rules.specs.declared.position.Position.{Position}
+use Rattle.std.proofs.lemmas.Nat.{mul-le}
+use Rattle.std.proofs.lemmas.Bool.Decides.{nat_tests}
+use Rattle.comp_graph.specs.Graphs.{GraphParts, IsGraph, dag_of}
 use Rattle.comp_graph.specs.Sets.{membership, same}
+use Rattle.pebble_rules.proofs.Calls.{has_inputs}
 use Rattle.comp_graph.proofs.Sets.{some_member}
 use Rattle.comp_graph.proofs.DagLaws.{and-true}
 use Rattle.pebble_rules.proofs.Possible.{not_member, true_or_false}
@@ -127,9 +131,6 @@ not_within g p n dag below (inr some) bare = not_member _ (λ h. some (λ w pred
 -- why vertex n needs a load
 abbrev pub Why : Dag → Vertices → ℕ → Type 0
 Why g computed n = (n ∈ g.inputs) ⊎ (IsWithin (g.preds n) computed → ⊥)
-
-pub why_input : (g : Dag) (computed ins : Vertices) (n : ℕ) (b : Bool) → ins ≡ g.inputs → b ≡ contains ins n → b ≡ true → Why g computed n
-why_input g computed ins n b e is h = inl (subst (λ s. n ∈ s) e (sym is ∙ h))
 
 pub why_reads : (g : Dag) (computed preds : Vertices) (n : ℕ) (b : Bool) → preds ≡ g.preds n → (IsWithin preds computed → b ≡ true) → b ≡ false → Why g computed n
 why_reads g computed preds n b e test h = inr (λ within. let t = test (subst (λ s. IsWithin s computed) (sym e) within) in grind arith)
@@ -358,3 +359,80 @@ pub is_floor : (g : PebbleGame) (p : Position) (load store stores loads : ℕ) �
     → loads ≡ length (taken g.dag p g.dag.count) → store * stores + load * loads ≡ floor g p
 unfolding floor
 is_floor g p load store stores loads a b d e = cc
+
+-- ---- inputs
+
+-- the inputs are the vertices below their number
+pub input_below : (g : GraphParts) → IsGraph g → (v n : ℕ) → n ≡ length g.names → v < n → v ∈ (dag_of g).inputs
+input_below g ok v n e low = test (contains (dag_of g).inputs v) (length g.names) (has_inputs g ok v) (omega (arith, e, low))
+  where
+    test : (b : Bool) (m : ℕ) → b ≡ (ltb v m && true) → v < m → b ≡ true
+    test b m e h = grind (arith, nat_tests)
+
+pub no_input_above : (g : GraphParts) → IsGraph g → (v n : ℕ) → n ≡ length g.names → n ≤ v → v ∉ (dag_of g).inputs
+no_input_above g ok v n e high = test (contains (dag_of g).inputs v) (length g.names) (has_inputs g ok v) (omega (arith, e, high))
+  where
+    test : (b : Bool) (m : ℕ) → b ≡ (ltb v m && true) → m ≤ v → b ≡ false
+    test b m e h = grind (arith, nat_tests)
+
+-- nothing leads to an input
+input_cone : (g : Dag) → IsDag g → (n : ℕ) (computed met : Vertices) → n ∈ g.inputs → n ∉ met → IsFreeCone g n computed met (insert empty n)
+input_cone g dag n computed met source out = record {
+  least = record {
+    closed = record {
+      itself = itself;
+      preds = λ w u h pred bare. absurd (none u (subst (λ s. u ∈ s) (ap g.preds (only_one w h) ∙ dag.inputs_have_no_preds n source) pred));
+    };
+    least = λ t holds u h. subst (λ k. k ∈ t) (sym (only_one u h)) holds.itself;
+  };
+  free = λ u h. subst (λ k. k ∉ met) (sym (only_one u h)) out;
+}
+  where
+    itself : n ∈ insert empty n
+    itself = grind (arith, membership)
+
+    only_one : (u : ℕ) → u ∈ insert empty n → u ≡ n
+    only_one u h = grind (arith, membership)
+
+    none : (u : ℕ) → u ∈ empty → ⊥
+    none u h = grind (arith, membership)
+
+-- vertex n is an input that must become red
+pub taken_input : (g : Dag) → IsDag g → (p : Position) (n : ℕ) (computed met : Vertices) (count : ℕ) → n < g.count → IsTaken g p n computed met count
+    → n ∉ computed → n ∈ g.inputs → n ∈ wanted g p → IsTaken g p (suc n) computed (insert met n) (count + 1)
+taken_input g dag p n computed met count below is out source want =
+    let far = needs_load g dag p n computed met count below is out (inl source) in
+    let cone = input_cone g dag n computed met source (not_met g p n computed met count is) in
+    subst (λ s. IsTaken g p (suc n) computed s (count + 1)) (same _ _ (λ u. grind (arith, membership)))
+    (taken_apart g dag p n computed met (insert empty n) count below is out far want cone)
+
+-- ---- where the count stops early
+
+one_more : (g : Dag) (p : Position) (n : ℕ) → length (taken g p n) ≤ length (taken g p (suc n))
+one_more g p n = elim (is_apart g p n (taken g p n)) as (λ b. length (taken g p n) ≤ length (cond b (n ∷ taken g p n) (taken g p n))) [ true ↦ omega arith | false ↦ omega arith ]
+
+taken_grows : (g : Dag) (p : Position) (n k : ℕ) → length (taken g p n) ≤ length (taken g p (k + n))
+taken_grows g p n zero =
+    let same : n ≡ 0 + n = omega arith in
+    subst (λ m. length (taken g p n) ≤ length (taken g p m)) same (omega arith)
+taken_grows g p n (suc k) =
+    let before = taken_grows g p n k in
+    let more = one_more g p (k + n) in
+    let same : suc k + n ≡ suc (k + n) = omega arith in
+    subst (λ m. length (taken g p n) ≤ length (taken g p m)) (sym same) (omega (arith, before, more))
+
+-- no more are taken so far than in all
+pub taken_so_far : (g : Dag) (p : Position) (n count : ℕ) (computed met : Vertices) → IsTaken g p n computed met count → n ≤ g.count → count ≤ length (taken g p g.count)
+taken_so_far g p n count computed met is few =
+    let whole : (g.count - n) + n ≡ g.count = omega arith in
+    let more = subst (λ m. length (taken g p n) ≤ length (taken g p m)) whole (taken_grows g p n (g.count - n)) in
+    let many = is.many in
+    omega (arith, more, many)
+
+-- with fewer loads the sum is no more
+pub under_floor : (g : PebbleGame) (p : Position) (load store stores loads : ℕ) → load ≡ g.load → store ≡ g.store → stores ≡ size (difference g.dag.outputs p.blue)
+    → loads ≤ length (taken g.dag p g.dag.count) → store * stores + load * loads ≤ floor g p
+under_floor g p load store stores loads a b d few =
+    let all = is_floor g p load store stores (length (taken g.dag p g.dag.count)) a b d refl in
+    let more = mul-le load loads load (length (taken g.dag p g.dag.count)) (omega arith) few in
+    omega (arith, all, more)

@@ -9,4 +9,4 @@ mod spread;
 #[cfg(test)]
 mod tests;
 
-pub use evaluating::floor;
+pub use evaluating::{floor, floor_below};

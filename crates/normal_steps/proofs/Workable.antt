@@ -92,6 +92,12 @@ not_for_dead g ok p v live is dead can =
 pub not_for_red : (g : GameParts) (p : Position) (v : ℕ) → v ∈ p.red → CanWork (game_of g) p v → ⊥
 not_for_red g p v red can = not_both (contains p.red v) red can.not_red
 
+-- nor where a predecessor has no pebble
+pub not_for_bare : (g : GameParts) (p : Position) (v : ℕ) (preds held : Vertices) (within : Bool) → preds ≡ (dag_of g.graph).preds v → held ≡ union p.red p.blue
+    → IsTrue within ↔ IsWithin preds held → within ≡ false → CanWork (game_of g) p v → ⊥
+not_for_bare g p v preds held within preds_is held_is decided out can =
+    not_both within (decided.1 (subst (IsWithin preds) (sym held_is) (subst (λ s. IsWithin s (union p.red p.blue)) (sym preds_is) can.preds_held))) out
+
 pub leb_true : (a b : ℕ) → leb a b ≡ true → a ≤ b
 leb_true a b h = grind arith
 

@@ -39,8 +39,11 @@ pub(crate) fn is_workable(game: &Game, position: &Position, live: &VertexSet, v:
         return false;
     }
     let preds = graph.preds(v);
+    if !preds.within(&position.red.union(&position.blue)) {
+        return false;
+    }
     let worked = position.red.union(&preds).with(v);
-    preds.within(&position.red.union(&position.blue)) && worked.count() <= game.slots()
+    worked.count() <= game.slots()
 }
 
 // Whether some Work could lack a slot.

@@ -161,7 +161,7 @@ fn head_from(link: u64, number: u64) -> Head
     }
 }
 
-// Takes the memory for one more place number.
+// Takes the memory for one more place number. At most a third of the places is taken, so that few are looked at.
 fn reserve(
     alloc: Global,
     store: &Store,
@@ -177,8 +177,8 @@ fn reserve(
     ensures room { OnOk result (3 * (length store.now.rows + 1) ≤ 2 * length places.new.items) }
 {
     let wanted = 3 * (store.len() as usize + 1);
-    if 2 * places.len() < wanted {
-        *places = rebuilt(alloc, store, width, wanted)?;
+    if places.len() < wanted {
+        *places = rebuilt(alloc, store, width, 2 * wanted)?;
     }
     Ok(())
 }

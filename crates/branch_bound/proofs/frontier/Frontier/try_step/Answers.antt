@@ -34,21 +34,21 @@ returns-in-Some c =
 
 pub returns-then-h-floor : goal.returns-then-h-floor
 returns-then-h-floor c =
-    let floor = c.floor-floor.ensures.value in
+    let under = c.floor_below-floor.ensures.under in
     let test = c.if-h-floor.true in
-    step_beaten (game_of c.args.game.now) c.args.from c.args.self.now c.args.best.now c.args.step c.args.p.now c.args.cost c.requires.frontier c.requires.position c.requires.cost (c.args.cost + c.cost.result) (ap (λ n. c.args.cost + n) c.cost.ensures) c.after-q.result c.after-q.ensures (omega (arith, floor, test))
+    step_beaten (game_of c.args.game.now) c.args.from c.args.self.now c.args.best.now c.args.step c.args.p.now c.args.cost c.requires.frontier c.requires.position c.requires.cost (c.args.cost + c.cost.result) (ap (λ n. c.args.cost + n) c.cost.ensures) c.after-q.result c.after-q.ensures (omega (arith, under, test))
 
 pub overflow_add-best : goal.overflow_add-best
 overflow_add-best c =
     let rest = rest_is_floor c.floor_at_ends.ensures.finish (game_of c.args.game.now) (IsDag-dag_of c.args.game.now.graph c.requires.game.valid) c.after-q.result c.in-Some-finish.ensures.finishes c.in-Some-finish.rest c.in-Some-finish.ensures.cost in
-    let floor = c.floor-floor.ensures.value in
     let test = c.if-h-floor.false in
+    let floor = c.floor_below-floor.ensures.exact (omega (arith, test)) in
     omega (arith, rest, floor, test)
 
 pub returns-in-Some-finish : goal.returns-in-Some-finish
 returns-in-Some-finish c =
-    let floor = c.floor-floor.ensures.value in
     let test = c.if-h-floor.false in
+    let floor = c.floor_below-floor.ensures.exact (omega (arith, test)) in
     let finishes = c.in-Some-finish.ensures.finishes in
     step_finished (game_of c.args.game.now) c.args.from c.args.self.now c.args.best.now c.args.step c.args.p.now c.args.cost c.requires.frontier c.requires.position c.requires.cost (c.args.cost + c.cost.result) (ap (λ n. c.args.cost + n) c.cost.ensures) c.after-q.result c.after-q.ensures c.requires.expanding c.in-Some-finish.rest c.in-Some-finish.ensures.cost
     (rest_is_floor c.floor_at_ends.ensures.finish (game_of c.args.game.now) (IsDag-dag_of c.args.game.now.graph c.requires.game.valid) c.after-q.result finishes c.in-Some-finish.rest c.in-Some-finish.ensures.cost)
@@ -62,7 +62,7 @@ add-requires-clause-fits c =
 
 pub returns : goal.returns
 returns c =
-    let floor = c.floor-floor.ensures.value in
     let test = c.if-h-floor.false in
-    step_added (game_of c.args.game.now) c.args.from c.args.self.now c.args.best.now c.args.step c.args.p.now c.args.cost c.requires.frontier c.requires.position c.requires.cost (c.args.cost + c.cost.result) (ap (λ n. c.args.cost + n) c.cost.ensures) c.after-q.result c.after-q.ensures c.requires.expanding c.add.new.self c.in_ok-add.ensures.frontier c.in_ok-add.ensures.words c.in_ok-add.ensures.current c.floor-floor.result c.in_ok-add.ensures.put c.in_ok-add.ensures.size
+    let floor = c.floor_below-floor.ensures.exact (omega (arith, test)) in
+    step_added (game_of c.args.game.now) c.args.from c.args.self.now c.args.best.now c.args.step c.args.p.now c.args.cost c.requires.frontier c.requires.position c.requires.cost (c.args.cost + c.cost.result) (ap (λ n. c.args.cost + n) c.cost.ensures) c.after-q.result c.after-q.ensures c.requires.expanding c.add.new.self c.in_ok-add.ensures.frontier c.in_ok-add.ensures.words c.in_ok-add.ensures.current c.floor_below-floor.result c.in_ok-add.ensures.put c.in_ok-add.ensures.size
     c.in_default.ensures floor (omega (arith, test)) (bare_cannot (game_of c.args.game.now) c.after-q.result c.in_default-finish.ensures.bare)
