@@ -15,7 +15,8 @@ import re
 import sys
 
 TOP = os.path.dirname(os.path.dirname(os.path.realpath(__file__)))
-ONES = 'zero one two three four five six seven eight nine ten eleven twelve thirteen fourteen fifteen sixteen seventeen eighteen nineteen'.split()
+ONES = 'zero one two three four five six seven eight nine ten eleven twelve thirteen fourteen'.split()
+ONES += 'fifteen sixteen seventeen eighteen nineteen'.split()
 TENS = 'twenty thirty forty fifty sixty seventy eighty ninety'.split()
 TEXT = re.compile(r'const (\w+): &str =\s*"([^"\\]*)";')
 RUNS = re.compile(r'text: (\w+),.*?runs: \[(.*?)\n    \}', re.DOTALL)
