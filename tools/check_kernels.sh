@@ -6,6 +6,7 @@
 here=$(CDPATH='' cd -- "$(dirname -- "$0")/.." && pwd) || exit 1
 pebble=${PEBBLE:-$here/pebble}
 run_code=$here/tools/run_code.py
+export PEBBLE_QUIET=1
 
 if ! command -v python3 >/dev/null 2>&1; then
     echo "check_kernels: skipped, since there is no python3"
