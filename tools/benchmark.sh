@@ -1,7 +1,7 @@
 #!/bin/sh
 # Measures the program on the largest kernels: of 256 vertices, of 65,536 bytes, and of 65,533 turns. Prints the mean time of a run and,
 # where /usr/bin/time tells it, the most memory of one. It checks nothing and is no part of the gate. PEBBLE names another program.
-here=$(CDPATH='' cd -- "$(dirname -- "$0")/.." && pwd) || exit 1
+here=$(CDPATH= cd -- "$(dirname -- "$0")/.." && pwd) || exit 1
 pebble=${PEBBLE:-$here/pebble}
 runs=${RUNS:-20}
 export PEBBLE_QUIET=1

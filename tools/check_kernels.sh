@@ -3,7 +3,7 @@
 # the table, the outputs, the graph and the exit statuses against tools/run_code.py, and docs/KERNELS.md and the tests of
 # crates/worked_kernels against the kernels. The exit status is 0 where all agrees, or where there is no python3 to check with. PEBBLE
 # names another program than the one at the top of the repository.
-here=$(CDPATH='' cd -- "$(dirname -- "$0")/.." && pwd) || exit 1
+here=$(CDPATH= cd -- "$(dirname -- "$0")/.." && pwd) || exit 1
 pebble=${PEBBLE:-$here/pebble}
 run_code=$here/tools/run_code.py
 export PEBBLE_QUIET=1
@@ -15,9 +15,9 @@ fi
 folder=$(mktemp -d) || exit 1
 trap 'rm -rf "$folder"' EXIT
 
-python3 "$here/tools/compare_kernels.py" || result=1
 python3 "$run_code" document "$here/docs/KERNELS.md" "$here"/kernels/*.kernel || result=1
 python3 "$run_code" gallery "$here/crates/worked_kernels/src/gallery" "$here"/kernels/*.kernel || result=1
+python3 "$here/tools/compare_kernels.py" || result=1
 for kernel in "$here"/kernels/*.kernel; do
     sizes=$(python3 "$run_code" slots "$kernel") || { echo "$kernel: $sizes"; result=1; continue; }
     for slots in $sizes; do
