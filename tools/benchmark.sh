@@ -6,6 +6,7 @@
 here=$(CDPATH= cd -- "$(dirname -- "$0")/.." && pwd) || exit 1
 pebble=${PEBBLE:-$here/pebble}
 runs=${RUNS:-20}
+export PEBBLE_QUIET=1
 folder=$(mktemp -d) || exit 1
 trap 'rm -rf "$folder"' EXIT
 

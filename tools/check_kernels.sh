@@ -8,6 +8,7 @@
 here=$(CDPATH= cd -- "$(dirname -- "$0")/.." && pwd) || exit 1
 pebble=${PEBBLE:-$here/pebble}
 run_code=$here/tools/run_code.py
+export PEBBLE_QUIET=1
 
 if ! command -v python3 >/dev/null 2>&1; then
     echo "check_kernels: skipped, since there is no python3"
@@ -43,6 +44,7 @@ run_on() {
 
 python3 "$run_code" document "$here/docs/KERNELS.md" "$here"/kernels/*.kernel || result=1
 python3 "$run_code" gallery "$here/crates/worked_kernels/src/gallery" "$here"/kernels/*.kernel || result=1
+python3 "$here/tools/compare_kernels.py" || result=1
 for kernel in "$here"/kernels/*.kernel; do
     sizes=$(python3 "$run_code" slots "$kernel") || { echo "$kernel: $sizes"; result=1; continue; }
     for slots in $sizes; do
