@@ -1,5 +1,5 @@
-//! The command `check`: tables that are accepted and refused, and a table that is cut or changed byte by byte. The tables were worked out by
-//! hand: none of them is what a search made.
+//! The command `check`: tables that were worked out by hand, accepted and refused; a table that is cut or changed byte by byte; and tables that
+//! `plan` wrote.
 use example_runs::{run_line, run_on, words_of};
 use pebble_cli::Status;
 use std::alloc::Global;
@@ -429,6 +429,30 @@ fn tables_that_are_cut_or_changed(rt: HostRuntime) -> Result<(), Fail> {
                 "byte {place}"
             ),
         }
+    }
+    Ok(())
+}
+
+/// A kernel whose first plan costs 4, and its cheapest 3.
+const KNOT: &str =
+    "kernel knot { in x; out y; tmp a; tmp b; tmp c; a = x+1; b = x*2; c = a*b; c = c*a; y = c*b; }";
+
+/// Words of `plan`, words of `check`, a kernel, and what `check` prints of the table that `plan` wrote.
+const PLANNED: [(&str, &str, &str, &str); 4] = [
+    ("plan 2 t", "check 2 t", P, "accepted bound 2\n"),
+    ("plan 3 t 1", "check 3 t", CHAIN, "accepted bound 2\n"),
+    ("plan 3 t", "check 3 t", CHAIN, "accepted bound 5\n"),
+    ("plan 3 t", "check 3 t", KNOT, "accepted bound 3\n"),
+];
+
+#[test]
+fn tables_that_are_planned(rt: HostRuntime) -> Result<(), Fail> {
+    for (plan, check, kernel, printed) in PLANNED {
+        let planned = run_line(rt.alloc(), plan, kernel.as_bytes(), b"old")?;
+        let table = planned.file.ok_or("no file")?;
+        let left = run_line(rt.alloc(), check, kernel.as_bytes(), &table)?;
+        assert_eq!(rt; left.output.as_slice(), printed.as_bytes());
+        assert_eq!(rt; left.status, Status::Done);
     }
     Ok(())
 }
