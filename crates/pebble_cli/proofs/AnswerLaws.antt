@@ -4,10 +4,11 @@ use Rattle.std.proofs.lemmas.Bool.{cases_lt}
 use Rattle.comp_graph.specs.Dags.{degree}
 use Rattle.comp_graph.specs.Graphs.{GraphParts, dag_of}
 use Rattle.kernel_ast.specs.KernelParts.{KernelParts}
+use Rattle.kernel_gen.specs.Trials.{trial_kernel}
 use Rattle.pebble_cli.specs.declared.commands.Command.{Command}
-use Rattle.pebble_cli.specs.declared.commands.Command.TheVariants.{Plan, Check, Run, Exec, Graph}
+use Rattle.pebble_cli.specs.declared.commands.Command.TheVariants.{Plan, Check, Run, Exec, Graph, Trial}
 use Rattle.pebble_cli.specs.declared.commands.Subject.{Subject}
-use Rattle.pebble_cli.specs.declared.commands.Subject.TheVariants.{InputKernel, InputCode}
+use Rattle.pebble_cli.specs.declared.commands.Subject.TheVariants.{InputKernel, InputCode, TrialKernel}
 use Rattle.pebble_cli.specs.declared.status.Status.{Status}
 use Rattle.pebble_cli.specs.declared.status.Status.TheVariants.{Usage, Kernel, TooSmall, ReadFault, WriteFault, NoMemory, Code}
 use Rattle.pebble_cli.specs.Accepted.{IsAccepted, IsKernelFault}
@@ -28,6 +29,7 @@ use Rattle.pebble_cli.proofs.LastAnswers.{HasLast, AreKept}
 use Rattle.pebble_cli.proofs.PlanKept.{plan_kept}
 use Rattle.pebble_cli.proofs.FirstPlans.{is_too_small}
 use Rattle.pebble_cli.proofs.RunKept.{run_kept}
+use Rattle.pebble_cli.proofs.TrialKept.{trial_kept}
 use Rattle.pebble_cli.proofs.WordLimits.{words_are_in_limits}
 
 -- what is shown of the last answers of each command
@@ -37,6 +39,7 @@ last_kept (Check asked) = check_kept asked
 last_kept Run = run_kept
 last_kept Exec = exec_kept
 last_kept Graph = graph_kept
+last_kept (Trial asked) = trial_kept asked
 
 -- ---- the answers of one command
 
@@ -79,6 +82,7 @@ one_text first second = cc
 no_kernel : {X : Type 0} (s : Subject) (input text : List ℕ) → s ≡ InputCode → kernel_text s input ≡ Some text → X
 no_kernel InputKernel input text is e = absurd (cc)
 no_kernel InputCode input text is e = absurd (cc)
+no_kernel (TrialKernel statements) input text is e = absurd (cc)
 
 -- a kernel with a fault is not admitted
 fault_refuses : (asked : Command) (input text : List ℕ) (code at : ℕ) → kernel_text (subject asked) input ≡ Some text → IsKernelFault text code at → IsAdmitted asked input → ⊥
@@ -231,6 +235,7 @@ some_slots (Check asked) slots limits has = let same : asked.slots ≡ slots = c
 some_slots Run slots limits has = absurd (cc)
 some_slots Exec slots limits has = absurd (cc)
 some_slots Graph slots limits has = absurd (cc)
+some_slots (Trial asked) slots limits has = let same : asked.slots ≡ slots = cc in omega (arith, limits.1.0, same)
 
 pub too_small_always : TooSmallAlways
 too_small_always asked input text file slots kernel graph limits is has accepted few =
@@ -330,6 +335,7 @@ by_subject : (asked : Command) (input : List ℕ) (file : Option (Option (List �
     → subject asked ≡ s → HasAnswer (Some asked) input file
 by_subject asked input file InputKernel limits there is = by_text asked input input file limits there (ap (λ s. kernel_text s input) is)
 by_subject asked input file InputCode limits there is = by_code asked input file limits there is
+by_subject asked input file (TrialKernel statements) limits there is = by_text asked input (trial_kernel statements) file limits there (ap (λ s. kernel_text s input) is)
 
 by_words : (found : Option Command) (input : List ℕ) (file : Option (Option (List ℕ))) → ((asked : Command) → found ≡ Some asked → IsInLimits asked)
     → (reads_file found ≡ true → file ≡ Some None → ⊥) → HasAnswer found input file

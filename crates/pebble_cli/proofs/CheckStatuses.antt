@@ -77,7 +77,7 @@ pub plans_are_accepted : PlansAreAccepted
 plans_are_accepted asked input verdict report bytes limits plan status printed table h =
     let t = plan.table_parts in
     let same : plan.bytes ≡ bytes = (let written = plan.written in cc) in
-    let few : length t.rows ≤ 150000 = (let expanded = plan.answer.expanded in let most = plan.answer.few in let budget = limits.2 in omega (arith, expanded, most, budget)) in
-    let is = written_table plan.graph asked.slots bytes t (subst (λ x. IsSpelling x t) same plan.spelled) plan.answer.tabled few in
+    let few : length t.rows ≤ 150000 = (let expanded = plan.answer.shown.expanded in let most = plan.answer.shown.few in let budget = limits.2 in omega (arith, expanded, most, budget)) in
+    let is = written_table plan.graph asked.slots bytes t (subst (λ x. IsSpelling x t) same plan.spelled) plan.answer.shown.tabled few in
     let done = done_where_certified (record { slots = asked.slots }) input bytes status printed table plan.kernel plan.graph h plan.accepted plan.room t is in
-    (done.0, done.1 ∙ ap accepted_text plan.answer.bound)
+    (done.0, done.1 ∙ ap accepted_text plan.answer.shown.bound)

@@ -11,12 +11,16 @@ use Rattle.forced_bounds.proofs.Ends.{floor_of_finish}
 use Rattle.potential_cert.specs.Table.{IsSupport}
 use Rattle.search_laws.proofs.Count.{enough_budget_is_optimal}
 use Rattle.kernel_ast.specs.KernelParts.{KernelParts}
-use Rattle.pebble_cli.specs.declared.commands.Command.TheVariants.{Plan, Run, Graph}
+use Rattle.kernel_gen.specs.Laws.{IsTrial}
+use Rattle.kernel_gen.specs.Trials.{trial_kernel}
+use Rattle.kernel_gen.proofs.AcceptedTrials.{trials_accepted}
+use Rattle.pebble_cli.specs.declared.commands.Command.TheVariants.{Plan, Run, Graph, Trial}
 use Rattle.pebble_cli.specs.declared.commands.Planning.{Planning}
 use Rattle.pebble_cli.specs.declared.status.Status.{Status}
 use Rattle.pebble_cli.specs.declared.status.Status.TheVariants.{Optimal, Open, Done, Kernel, TooSmall, Values}
-use Rattle.pebble_cli.specs.Accepted.{IsAccepted}
+use Rattle.pebble_cli.specs.Accepted.{IsAccepted, IsKernelFault}
 use Rattle.pebble_cli.specs.Answers.{Answers}
+use Rattle.pebble_cli.specs.Faults.{of_file, of_input}
 use Rattle.pebble_cli.specs.GraphAnswers.{IsDrawn}
 use Rattle.pebble_cli.specs.GraphLaws.{GraphStatuses, DoneWhereAccepted}
 use Rattle.pebble_cli.specs.PlanAnswers.{IsPlanned, plan_asked, rows_asked, search_asked, verdict_status}
@@ -24,12 +28,15 @@ use Rattle.pebble_cli.specs.PlanLaws.{PlanStatuses, PlansAreAnswered, OptimalWhe
 use Rattle.pebble_cli.specs.PlayedGames.{played_for}
 use Rattle.pebble_cli.specs.RunAnswers.{Runs, IsValued, IsWrongValues}
 use Rattle.pebble_cli.specs.RunLaws.{RunStatuses, DoneWhereValues, ValuesWhereNone}
-use Rattle.pebble_cli.proofs.Accepting.{accepted_graph}
+use Rattle.pebble_cli.specs.TrialAnswers.{IsTried}
+use Rattle.pebble_cli.specs.TrialLaws.{TrialStatuses, DoneWhereRoom, NoReadOfTrials}
+use Rattle.pebble_cli.proofs.Accepting.{accepted_graph, no_fault_of_accepted}
 use Rattle.pebble_cli.proofs.AnswerLaws.{Kinds, faulty, not_code, small, last, kind_of, to_last}
 use Rattle.pebble_cli.proofs.FoundPlans.{first_finishes, found_no_worse}
 use Rattle.pebble_cli.proofs.GraphKept as to_graph
 use Rattle.pebble_cli.proofs.PlanKept as to_plan
 use Rattle.pebble_cli.proofs.RunKept as to_run
+use Rattle.pebble_cli.proofs.TrialKept as to_trial
 
 -- ---- plan
 
@@ -46,7 +53,7 @@ plan_statuses asked input file status printed table h = by_kind (kind_of (Plan a
     by_kind (faulty text is k) = inl k.ends
     by_kind (not_code is k) = absurd (cc)
     by_kind (small text slots is has k) = inr (inl k.ends)
-    by_kind (last k) = inr (inr (verdict_is k.plan.optimal k.ends, k))
+    by_kind (last k) = inr (inr (verdict_is k.plan.numbers.optimal k.ends, k))
 
 -- the plan of an accepted kernel with enough slots
 planned : (asked : Planning) (input : List ℕ) (file : Option (Option (List ℕ))) (status : Status) (printed : List ℕ) (table : Option (List ℕ)) (kernel : KernelParts) (graph : GraphParts)
@@ -57,21 +64,21 @@ planned asked input file status printed table kernel graph h accepted room =
 pub plans_are_answered : PlansAreAnswered
 plans_are_answered asked input file status printed table kernel graph h accepted room =
     let k = planned asked input file status printed table kernel graph h accepted room in
-    verdict_is k.plan.optimal k.ends
+    verdict_is k.plan.numbers.optimal k.ends
 
 pub optimal_where_tight : OptimalWhereTight
 optimal_where_tight asked input file status printed table kernel graph h accepted room tight =
     let k = planned asked input file status printed table kernel graph h accepted room in
     let numbers = to_plan.planned_numbers asked input kernel graph status printed table accepted k in
-    let bound = to_plan.one_bound asked graph k.plan.bound (plan_asked asked graph).total numbers.0 tight in
-    k.ends ∙ ap verdict_status (k.answer.is_optimal.1 (bound ∙ sym numbers.1))
+    let bound = to_plan.one_bound asked graph k.plan.numbers.bound (plan_asked asked graph).total numbers.0 tight in
+    k.ends ∙ ap verdict_status (k.answer.shown.is_optimal.1 (bound ∙ sym numbers.1))
 
 pub open_where_loose : OpenWhereLoose
 open_where_loose asked input file status printed table kernel graph h accepted room bound is loose =
     let k = planned asked input file status printed table kernel graph h accepted room in
     let numbers = to_plan.planned_numbers asked input kernel graph status printed table accepted k in
-    let same = to_plan.one_bound asked graph k.plan.bound bound numbers.0 is in
-    by_verdict k.plan.optimal (λ e. let equal = k.answer.is_optimal.0 e in omega (arith, same, numbers.1, equal, loose)) k.ends
+    let same = to_plan.one_bound asked graph k.plan.numbers.bound bound numbers.0 is in
+    by_verdict k.plan.numbers.optimal (λ e. let equal = k.answer.shown.is_optimal.0 e in omega (arith, same, numbers.1, equal, loose)) k.ends
   where
     by_verdict : (optimal : Bool) → (optimal ≡ true → ⊥) → status ≡ verdict_status optimal → status ≡ Open
     by_verdict true not e = absurd (not refl)
@@ -93,11 +100,11 @@ optimal_where_enough asked input file status printed table kernel graph h accept
     let valid = accepted_graph accepted in
     let numbers = to_plan.planned_numbers asked input kernel graph status printed table accepted k in
     let costs : (plan_asked asked graph).total ≡ (search_asked asked graph).cost = (found_no_worse asked graph valid room).costs in
-    let support = subst (λ cost. IsSupport (played_for asked graph) (rows_asked asked graph) cost k.plan.bound) costs numbers.0 in
+    let support = subst (λ cost. IsSupport (played_for asked graph) (rows_asked asked graph) cost k.plan.numbers.bound) costs numbers.0 in
     let many = subst (λ i. 2 ^ (2 * length graph.nodes - i) ≤ asked.budget) (sym (inputs_counted graph valid)) enough in
     let bound = enough_budget_is_optimal floor_of_finish (played_for asked graph) (IsDag-dag_of graph valid) (first_steps (played_for asked graph)) (first_finishes asked graph valid room)
-    asked.budget many k.plan.bound support in
-    k.ends ∙ ap verdict_status (k.answer.is_optimal.1 (bound ∙ sym costs ∙ sym numbers.1))
+    asked.budget many k.plan.numbers.bound support in
+    k.ends ∙ ap verdict_status (k.answer.shown.is_optimal.1 (bound ∙ sym costs ∙ sym numbers.1))
 
 -- ---- run
 
@@ -146,3 +153,28 @@ graph_statuses input file status printed table h = by_kind (kind_of Graph refl h
 pub done_where_accepted : DoneWhereAccepted
 done_where_accepted input file status printed table kernel graph h accepted =
     (to_last Graph input file status printed table (to_graph.admits input kernel graph accepted) (kind_of Graph refl h)).ends
+
+-- ---- trial
+
+pub trial_statuses : TrialStatuses
+trial_statuses asked input file status printed table limits h = by_kind (kind_of (Trial asked) refl h)
+  where
+    no_fault : {X : Type 0} (text : List ℕ) (code at : ℕ) → Some (trial_kernel asked.statements) ≡ Some text → IsKernelFault text code at → X
+    no_fault text code at e fault =
+        let trial : IsTrial asked.statements = trials_accepted asked.statements limits.0.0 limits.0.1 in
+        let same : trial_kernel asked.statements ≡ text = cc in
+        absurd (no_fault_of_accepted text trial.kernel trial.graph code at (subst (λ t. IsAccepted t trial.kernel trial.graph) same trial.accepted) fault)
+
+    by_kind : Kinds (Trial asked) input file status printed table → (status ≡ TooSmall) ⊎ ((status ≡ Done) × IsTried asked status printed table)
+    by_kind (faulty text is k) = no_fault text k.code k.at is k.fault
+    by_kind (not_code is k) = absurd (cc)
+    by_kind (small text slots is has k) = inl k.ends
+    by_kind (last k) = inr (k.ends, k)
+
+pub done_where_room : DoneWhereRoom
+done_where_room asked input file status printed table limits h kernel graph accepted room =
+    (to_last (Trial asked) input file status printed table (to_trial.admits asked input kernel graph accepted room) (kind_of (Trial asked) refl h)).ends
+
+pub no_read_of_trials : NoReadOfTrials
+no_read_of_trials asked input before now (of_input reads rose) = absurd (cc)
+no_read_of_trials asked input before now (of_file other is reads admitted rose) = absurd (cc)

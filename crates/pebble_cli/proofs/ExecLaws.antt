@@ -114,12 +114,12 @@ plans_run_as_sources asked text status printed table limits h short kernel graph
     let right = h.answer.right values here.counted in
     let reads = plans_read_back asked text status printed table limits h short in
     elim (where_values printed bytes done more other h.plan.code values exec_answer reads (subst (λ n. HoldsValues n bytes values) count here)) [
-      | inl k ↦ (source.0, k.2, k.3 ∙ text_is right k.0 k.1 ∙ ap (λ l. l ++ transfers_text h.plan.cost) (sym source.1))
+      | inl k ↦ (source.0, k.2, k.3 ∙ text_is right k.0 k.1 ∙ ap (λ l. l ++ transfers_text h.plan.numbers.cost) (sym source.1))
       | inr k ↦ absurd (let both : Ok right.ending ≡ Err k.0 = sym right.runs ∙ k.1 in cc)
     ]
   where
-    text_is : (right : RunsRight h.kernel h.plan.code h.plan.cost values) (ending : Ending) → run h.plan.code values ≡ Ok ending
-        → ran_text h.plan.code ending ≡ outputs_text (labels_of kinds.Output h.kernel.decls) (outputs h.kernel values) ++ transfers_text h.plan.cost
+    text_is : (right : RunsRight h.kernel h.plan.code h.plan.numbers.cost values) (ending : Ending) → run h.plan.code values ≡ Ok ending
+        → ran_text h.plan.code ending ≡ outputs_text (labels_of kinds.Output h.kernel.decls) (outputs h.kernel values) ++ transfers_text h.plan.numbers.cost
     text_is right ending runs =
         let both : Ok right.ending ≡ Ok ending = sym right.runs ∙ runs in
         let one : ending ≡ right.ending = cc in

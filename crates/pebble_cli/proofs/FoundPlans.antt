@@ -35,8 +35,8 @@ use Rattle.branch_bound.specs.declared.searching.Verdict.TheVariants as verdicts
 use Rattle.pebble_cli.specs.declared.commands.Planning.{Planning}
 use Rattle.pebble_cli.specs.declared.status.Status.{Status}
 use Rattle.pebble_cli.specs.Accepted.{IsAccepted}
-use Rattle.pebble_cli.specs.MadeAnswers.{is_optimal, printed_of}
-use Rattle.pebble_cli.specs.PlanAnswers.{PrintedPlan, RunsRight, IsAnswer, IsPlanned, first_plan_of, plan_asked, plan_text, verdict_status}
+use Rattle.pebble_cli.specs.MadeAnswers.{is_optimal, numbers_of, printed_of}
+use Rattle.pebble_cli.specs.PlanAnswers.{PlanNumbers, PrintedPlan, RunsRight, IsShown, IsAnswer, IsPlanned, first_plan_of, plan_asked, plan_text, verdict_status}
 use Rattle.pebble_cli.specs.PlayedGames.{game_asked, played_for}
 use Rattle.pebble_cli.proofs.Accepting.{accepted_labels}
 use Rattle.pebble_cli.proofs.FirstPlans.{labels_kept, first_plan_valid}
@@ -92,16 +92,19 @@ runs_right asked graph text kernel game accepted values count =
 
 -- ---- the answer
 
--- what is printed of the plan that is found, with a table of the search
-abbrev pub printed_with : Planning → GraphParts → TableParts → PrintedPlan
-printed_with asked graph table = record {
+-- the numbers of the plan that is found, with a table of the search
+abbrev pub numbers_with : Planning → GraphParts → TableParts → PlanNumbers
+numbers_with asked graph table = record {
   first = (first_plan_of (game_asked asked graph)).total;
   cost = (plan_asked asked graph).total;
   bound = table.bound;
   expanded = length table.rows;
   optimal = table.bound == (plan_asked asked graph).total;
-  code = plan_code (plan_asked asked graph);
 }
+
+-- what is printed of it
+abbrev pub printed_with : Planning → GraphParts → TableParts → PrintedPlan
+printed_with asked graph table = record { numbers = numbers_with asked graph table; code = plan_code (plan_asked asked graph) }
 
 -- two numbers differ exactly where the lower one is below the other
 apart : (rows budget a b : ℕ) → a ≤ b → (a < b → rows ≡ budget) → ((a == b) ≡ false) ↔ ((rows ≡ budget) × (a < b))
@@ -121,6 +124,27 @@ below_pebblings asked graph table valid is moves complete =
     let costs = play.costs in
     omega (arith, most, costs)
 
+-- the numbers of the plan that is found are those that are shown
+pub found_shown : (asked : Planning) (graph : GraphParts) (table : TableParts) → IsGame (game_asked asked graph)
+    → IsSearchedTable (played_for asked graph) (first_steps (played_for asked graph)) asked.budget (plan_asked asked graph).total table
+    → IsShown graph asked (numbers_with asked graph table) table
+found_shown asked graph table game is =
+    let plan = plan_asked asked graph in
+    record {
+      first = refl;
+      no_more = found_costs_no_more asked graph game.valid game.room;
+      tabled = is.of_game;
+      bound = refl;
+      expanded = refl;
+      rows = is.rows;
+      cost = refl;
+      support = is.support;
+      few = is.few;
+      is_optimal = (λ e. eqb-true table.bound plan.total e, λ e. eq-eqb table.bound plan.total e);
+      is_open = apart (length table.rows) asked.budget table.bound plan.total is.support.within_cost is.fills;
+      lowest = below_pebblings asked graph table game.valid is.of_game.valid;
+    }
+
 -- the plan that is found, with a table of the search, is an answer
 pub found_answers : (asked : Planning) (graph : GraphParts) (text : List ℕ) (kernel : KernelParts) (table : TableParts) → IsGame (game_asked asked graph) → IsAccepted text kernel graph
     → IsSearchedTable (played_for asked graph) (first_steps (played_for asked graph)) asked.budget (plan_asked asked graph).total table
@@ -130,25 +154,14 @@ found_answers asked graph text kernel table game accepted is =
     let right = plan_code_is_right plan game (found_plan_valid asked graph game) in
     let names = accepted_labels accepted in
     record {
-      first = refl;
-      no_more = found_costs_no_more asked graph game.valid game.room;
-      tabled = is.of_game;
-      bound = refl;
-      expanded = refl;
-      rows = is.rows;
-      cost = refl;
+      shown = found_shown asked graph table game is;
       code = refl;
-      support = is.support;
-      few = is.few;
-      is_optimal = (λ e. eqb-true table.bound plan.total e, λ e. eq-eqb table.bound plan.total e);
-      is_open = apart (length table.rows) asked.budget table.bound plan.total is.support.within_cost is.fills;
       code_slots = refl;
       code_bounds = right.valid;
       code_inputs = names.inputs;
       code_outputs = labels_kept (layout_after_all (first_layout graph asked.slots) (plan_moves plan)) graph.outputs ∙ names.outputs;
       right = λ values count. runs_right asked graph text kernel game accepted values (count ∙ ap length (sym names.inputs));
       played = record { moves = plan_moves plan; complete = right.complete; costs = right.costs; plays = right.plays };
-      lowest = below_pebblings asked graph table game.valid is.of_game.valid;
     }
 
 -- ---- what the program found
@@ -166,17 +179,41 @@ verdict_test : (verdict : Verdict) (a b : ℕ) → (verdict ≡ verdicts.Optimal
 verdict_test verdicts.Optimal a b same = sym (eq-eqb a b (same.0 refl))
 verdict_test verdicts.Open a b same = sym (ne_eqb a b (λ e. let is = same.1 e in absurd (cc)))
 
--- so what is printed is what is printed of it
-printed_is : (asked : Planning) (graph : GraphParts) (found : Found) → IsFound (first_plan_of (game_asked asked graph)) asked.budget found → found.plan ≡ plan_asked asked graph
-    → printed_of found ≡ printed_with asked graph found.table
-printed_is asked graph found at plan = λ i. record {
+-- so its numbers are those of that plan
+numbers_is : (asked : Planning) (graph : GraphParts) (found : Found) → IsFound (first_plan_of (game_asked asked graph)) asked.budget found → found.plan ≡ plan_asked asked graph
+    → numbers_of found ≡ numbers_with asked graph found.table
+numbers_is asked graph found at plan = λ i. record {
   first = at.first_cost i;
   cost = (plan i).total;
   bound = found.table.bound;
   expanded = length found.table.rows;
   optimal = (verdict_test found.verdict found.table.bound found.plan.total at.is_optimal ∙ ap (λ (p : PlanParts). found.table.bound == p.total) plan) i;
-  code = plan_code (plan i);
 }
+
+-- What was found is the plan that the definition finds, with its numbers and with a table of the search.
+pub record IsFoundFor (asked : Planning) (graph : GraphParts) (found : Found) : Type 0 where
+  pub game : IsGame (game_asked asked graph)
+  pub plan : found.plan ≡ plan_asked asked graph
+  pub numbers : numbers_of found ≡ numbers_with asked graph found.table
+  pub table : IsSearchedTable (played_for asked graph) (first_steps (played_for asked graph)) asked.budget (plan_asked asked graph).total found.table
+
+-- it is so of a search from the first plan
+pub found_for : (asked : Planning) (game : GameParts) (first : PlanParts) (found : Found) → game ≡ game_asked asked game.graph → IsGame game → first ≡ first_plan_of game
+    → IsFound first asked.budget found → IsPlan found.plan → IsFoundFor asked game.graph found
+found_for asked game first found played valid first_is at is_plan =
+    let from : first ≡ first_plan_of (game_asked asked game.graph) = first_is ∙ ap first_plan_of played in
+    let found_at : IsFound (first_plan_of (game_asked asked game.graph)) asked.budget found = subst (λ p. IsFound p asked.budget found) from at in
+    let plan : found.plan ≡ plan_asked asked game.graph = found_plan_is asked game.graph found found_at is_plan in
+    record {
+      game = subst IsGame played valid;
+      plan = plan;
+      numbers = numbers_is asked game.graph found found_at plan;
+      table = subst (λ (p : PlanParts). IsSearchedTable (played_for asked game.graph) (first_steps (played_for asked game.graph)) asked.budget p.total found.table) plan found_at.table;
+    }
+
+-- so its numbers and its table are shown
+pub found_is_shown : (asked : Planning) (graph : GraphParts) (found : Found) → IsFoundFor asked graph found → IsShown graph asked (numbers_of found) found.table
+found_is_shown asked graph found is = subst (λ n. IsShown graph asked n found.table) (sym is.numbers) (found_shown asked graph found.table is.game is.table)
 
 -- facts of an answer, put together
 pub of_answer : {A B : Type 0} (r : Result A B) (P Q R T : A → Type 0) → ((a : A) → P a → Q a → R a → T a) → IfOk r P → IfOk r Q → IfOk r R → IfOk r T
@@ -189,21 +226,18 @@ pub found_is_planned : (asked : Planning) (game : GameParts) (first : PlanParts)
     → status ≡ verdict_status (is_optimal found.verdict) → printed ≡ plan_text game.graph.title game.graph asked (printed_of found) → IsSpelling bytes found.table
     → IsPlanned asked text status printed (Some bytes)
 found_is_planned asked game first found text kernel status printed bytes played valid first_is at is_plan accepted ends report spelled =
-    let here : IsGame (game_asked asked game.graph) = subst IsGame played valid in
-    let from : first ≡ first_plan_of (game_asked asked game.graph) = first_is ∙ ap first_plan_of played in
-    let found_at : IsFound (first_plan_of (game_asked asked game.graph)) asked.budget found = subst (λ p. IsFound p asked.budget found) from at in
-    let plan : found.plan ≡ plan_asked asked game.graph = found_plan_is asked game.graph found found_at is_plan in
-    let table = subst (λ (p : PlanParts). IsSearchedTable (played_for asked game.graph) (first_steps (played_for asked game.graph)) asked.budget p.total found.table) plan found_at.table in
-    let answer = found_answers asked game.graph text kernel found.table here accepted table in
+    let is = found_for asked game first found played valid first_is at is_plan in
+    let same : printed_of found ≡ printed_with asked game.graph found.table = λ i. record { numbers = is.numbers i; code = plan_code (is.plan i) } in
+    let answer = found_answers asked game.graph text kernel found.table is.game accepted is.table in
     record {
       kernel = kernel;
       graph = game.graph;
       accepted = accepted;
-      valid = here.valid;
-      room = here.room;
+      valid = is.game.valid;
+      room = is.game.room;
       plan = printed_of found;
       table_parts = found.table;
-      answer = subst (λ p. IsAnswer kernel game.graph asked p found.table) (sym (printed_is asked game.graph found found_at plan)) answer;
+      answer = subst (λ p. IsAnswer kernel game.graph asked p found.table) (sym same) answer;
       ends = ends;
       report = report ∙ ap (λ t. plan_text t game.graph asked (printed_of found)) (accepted_labels accepted).title;
       bytes = bytes;

@@ -3,13 +3,15 @@ use Rattle.std.proofs.Common.{◌≡◌, ◌⊎◌, ◌<◌, ℕ, true, List, Op
 use Rattle.comp_graph.specs.Dags.{degree}
 use Rattle.comp_graph.specs.Graphs.{GraphParts, dag_of}
 use Rattle.kernel_ast.specs.KernelParts.{KernelParts}
+use Rattle.kernel_gen.specs.Trials.{trial_kernel}
 use Rattle.pebble_cli.specs.declared.answer.Answer.{Answer}
 use Rattle.pebble_cli.specs.declared.answer.EarlyEnd.{EarlyEnd}
 use Rattle.pebble_cli.specs.declared.answer.EarlyEnd.TheVariants.{Refused, ReadFault, NoMemory}
 use Rattle.pebble_cli.specs.declared.commands.Checking.{Checking}
 use Rattle.pebble_cli.specs.declared.commands.Command.{Command}
-use Rattle.pebble_cli.specs.declared.commands.Command.TheVariants.{Plan, Check, Run, Graph}
+use Rattle.pebble_cli.specs.declared.commands.Command.TheVariants.{Plan, Check, Run, Graph, Trial}
 use Rattle.pebble_cli.specs.declared.commands.Planning.{Planning}
+use Rattle.pebble_cli.specs.declared.commands.TrialPlanning.{TrialPlanning}
 use Rattle.pebble_cli.specs.Accepted.{IsAccepted}
 use Rattle.pebble_cli.specs.Answers.{Answers, faulty_kernel, too_few_slots, last_answer, IsAdmitted}
 use Rattle.pebble_cli.specs.CheckAnswers.{Checks}
@@ -19,6 +21,7 @@ use Rattle.pebble_cli.specs.MadeAnswers.{Meets, IfRefused, IfAnswer}
 use Rattle.pebble_cli.specs.PlanAnswers.{IsPlanned}
 use Rattle.pebble_cli.specs.Refusals.{IsFaulty, IsTooSmall}
 use Rattle.pebble_cli.specs.RunAnswers.{Runs}
+use Rattle.pebble_cli.specs.TrialAnswers.{IsTried}
 use Rattle.pebble_cli.proofs.CheckKept as to_check
 use Rattle.pebble_cli.proofs.RunKept.{admits}
 
@@ -102,6 +105,22 @@ drawn_answers r command input text file is e h = subst (λ k. IsText k input tex
     at : IsText Graph input text → IfAnswer r (Meets (Answers (Some Graph) input file))
     at e = let same : text ≡ input = cc in
         more_of r (Meets (IsDrawn text)) (Meets (Answers (Some Graph) input file)) (λ a k. last_answer Graph refl (subst (λ t. Meets (IsDrawn t) a) same k)) h
+
+pub tried_answers : (r : Result Answer EarlyEnd) (command : Command) (asked : TrialPlanning) (input text : List ℕ) (file : Option (Option (List ℕ))) (kernel : KernelParts) (graph : GraphParts)
+    → command ≡ Trial asked → IsText command input text → IsAccepted text kernel graph
+    → ((k : KernelParts) → IsAccepted (trial_kernel asked.statements) k graph
+    → IfAnswer r (λ a. Meets (IsTooSmall asked.slots (trial_kernel asked.statements)) a ⊎ Meets (IsTried asked) a))
+    → IfAnswer r (Meets (Answers (Some command) input file))
+tried_answers r command asked input text file kernel graph is e accepted h = subst (λ k. IsText k input text → IfAnswer r (Meets (Answers (Some k) input file))) (sym is) at e
+  where
+    each : (a : Answer) → Meets (IsTooSmall asked.slots (trial_kernel asked.statements)) a ⊎ Meets (IsTried asked) a → Meets (Answers (Some (Trial asked)) input file) a
+    each a (inl small) = too_few_slots (Trial asked) (trial_kernel asked.statements) asked.slots refl refl refl small
+    each a (inr tried) = last_answer (Trial asked) refl tried
+
+    at : IsText (Trial asked) input text → IfAnswer r (Meets (Answers (Some (Trial asked)) input file))
+    at e = let same : text ≡ trial_kernel asked.statements = cc in
+        more_of r (λ a. Meets (IsTooSmall asked.slots (trial_kernel asked.statements)) a ⊎ Meets (IsTried asked) a) (Meets (Answers (Some (Trial asked)) input file)) each
+        (h kernel (subst (λ t. IsAccepted t kernel graph) same accepted))
 
 -- `run` reads its file only where the kernel is accepted
 pub ran_fault : (command : Command) (input text : List ℕ) (kernel : KernelParts) (graph : GraphParts) → command ≡ Run → IsText command input text → IsAccepted text kernel graph

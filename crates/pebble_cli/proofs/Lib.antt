@@ -25,5 +25,6 @@ pub mod SomePlans
 pub mod SubjectAnswers
 pub mod TableFiles
 pub mod ToldBytes
+pub mod TrialKept
 pub mod ValuesFiles
 pub mod WordLimits

@@ -27,7 +27,7 @@ verdict_last true = refl
 verdict_last false = refl
 
 -- more slots than the degree
-room_for : (asked : Planning) (graph : GraphParts) → degree (dag_of graph) < asked.slots → (count : ℕ) → Some asked.slots ≡ Some count → degree (dag_of graph) < count
+pub room_for : (asked : Planning) (graph : GraphParts) → degree (dag_of graph) < asked.slots → (count : ℕ) → Some asked.slots ≡ Some count → degree (dag_of graph) < count
 room_for asked graph room count e = let same : asked.slots ≡ count = cc in omega (arith, room, same)
 
 -- an accepted kernel with enough slots is admitted
@@ -40,7 +40,7 @@ kept : (asked : Planning) (input : List ℕ) (file : Option (Option (List ℕ)))
     → IsPlanned asked input status printed table → IsKept (Plan asked) input file status printed table
 kept asked input file status printed table h = record {
   admitted = admits asked input h.kernel h.graph h.accepted h.room;
-  last = ap is_last h.ends ∙ verdict_last h.plan.optimal;
+  last = ap is_last h.ends ∙ verdict_last h.plan.numbers.optimal;
   untold = λ e. absurd (cc);
   held = λ e. absurd (cc);
 }
@@ -48,14 +48,14 @@ kept asked input file status printed table h = record {
 -- the bound and the cost are those of the text's one graph
 pub planned_numbers : (asked : Planning) (text : List ℕ) (kernel : KernelParts) (graph : GraphParts) (status : Status) (printed : List ℕ) (table : Option (List ℕ))
     → IsAccepted text kernel graph → (h : IsPlanned asked text status printed table)
-    → IsBoundAsked asked graph h.plan.bound × (h.plan.cost ≡ (plan_asked asked graph).total)
+    → IsBoundAsked asked graph h.plan.numbers.bound × (h.plan.numbers.cost ≡ (plan_asked asked graph).total)
 planned_numbers asked text kernel graph status printed table accepted h =
     let same = (accepted_once text h.kernel kernel h.graph graph h.accepted accepted).1 in
-    let rows = support_ignores_order (played_for asked h.graph) h.table_parts.rows (rows_asked asked h.graph) h.plan.cost h.plan.bound
-    (λ r. ((h.answer.rows r).1, (h.answer.rows r).0)) h.answer.support in
-    let bound : IsBoundAsked asked h.graph h.plan.bound =
-    subst (λ cost. IsSupport (played_for asked h.graph) (rows_asked asked h.graph) cost h.plan.bound) h.answer.cost rows in
-    (subst (λ g. IsBoundAsked asked g h.plan.bound) same bound, h.answer.cost ∙ ap (λ g. (plan_asked asked g).total) same)
+    let rows = support_ignores_order (played_for asked h.graph) h.table_parts.rows (rows_asked asked h.graph) h.plan.numbers.cost h.plan.numbers.bound
+    (λ r. ((h.answer.shown.rows r).1, (h.answer.shown.rows r).0)) h.answer.shown.support in
+    let bound : IsBoundAsked asked h.graph h.plan.numbers.bound =
+    subst (λ cost. IsSupport (played_for asked h.graph) (rows_asked asked h.graph) cost h.plan.numbers.bound) h.answer.shown.cost rows in
+    (subst (λ g. IsBoundAsked asked g h.plan.numbers.bound) same bound, h.answer.shown.cost ∙ ap (λ g. (plan_asked asked g).total) same)
 
 -- there is one such bound
 pub one_bound : (asked : Planning) (graph : GraphParts) (a b : ℕ) → IsBoundAsked asked graph a → IsBoundAsked asked graph b → a ≡ b
@@ -71,11 +71,11 @@ once : (asked : Planning) (text : List ℕ) (s t : Status) (p q : List ℕ) (a b
 once asked text s t p q a b h k =
     let numbers = planned_numbers asked text k.kernel k.graph s p a k.accepted h in
     let others = planned_numbers asked text k.kernel k.graph t q b k.accepted k in
-    let bounds : h.plan.bound ≡ k.plan.bound = one_bound asked k.graph h.plan.bound k.plan.bound numbers.0 others.0 in
-    let costs : h.plan.cost ≡ k.plan.cost = numbers.1 ∙ sym others.1 in
-    let same = same_truth h.plan.optimal k.plan.optimal
-    (λ e. k.answer.is_optimal.1 (sym bounds ∙ h.answer.is_optimal.0 e ∙ costs))
-    (λ e. h.answer.is_optimal.1 (bounds ∙ k.answer.is_optimal.0 e ∙ sym costs)) in
+    let bounds : h.plan.numbers.bound ≡ k.plan.numbers.bound = one_bound asked k.graph h.plan.numbers.bound k.plan.numbers.bound numbers.0 others.0 in
+    let costs : h.plan.numbers.cost ≡ k.plan.numbers.cost = numbers.1 ∙ sym others.1 in
+    let same = same_truth h.plan.numbers.optimal k.plan.numbers.optimal
+    (λ e. k.answer.shown.is_optimal.1 (sym bounds ∙ h.answer.shown.is_optimal.0 e ∙ costs))
+    (λ e. h.answer.shown.is_optimal.1 (bounds ∙ k.answer.shown.is_optimal.0 e ∙ sym costs)) in
     h.ends ∙ ap verdict_status same ∙ sym k.ends
 
 -- a plan answers an accepted kernel with enough slots
@@ -85,7 +85,7 @@ answered asked text kernel graph game limits accepted =
     let table = table_asked asked graph game in
     let plan = printed_with asked graph table in
     record {
-      status = verdict_status plan.optimal;
+      status = verdict_status plan.numbers.optimal;
       printed = plan_text kernel.title graph asked plan;
       table = Some (table_bytes table);
       answer = record {

@@ -198,7 +198,7 @@ report_is_comments title f =
     All-append IsComment (game_lines title f) (weight_lines f.weights ++ plan_lines f) game (All-append IsComment (weight_lines f.weights) (plan_lines f) weights plan)
 
 plan_facts_small : (asked : Planning) (text : List ℕ) (status : Status) (printed : List ℕ) (table : Option (List ℕ)) → IsInLimits (Plan asked)
-    → (h : IsPlanned asked text status printed table) → AreSmallFacts (facts_of h.graph asked h.plan)
+    → (h : IsPlanned asked text status printed table) → AreSmallFacts (facts_of h.graph asked h.plan.numbers)
 plan_facts_small asked text status printed table limits h =
     let game : IsGame (game_asked asked h.graph) = record {
       valid = h.valid;
@@ -211,11 +211,11 @@ plan_facts_small asked text status printed table limits h =
     let room = h.room in
     let most = limits.1 in
     let few = (first_plan_valid (game_asked asked h.graph) game).fits in
-    let first = h.answer.first in
-    let no_more = h.answer.no_more in
-    let low = h.answer.lowest h.answer.played.moves h.answer.played.complete in
+    let first = h.answer.shown.first in
+    let no_more = h.answer.shown.no_more in
+    let low = h.answer.shown.lowest h.answer.played.moves h.answer.played.complete in
     let costs = h.answer.played.costs in
-    let expanded = h.answer.few in
+    let expanded = h.answer.shown.few in
     let budget = limits.2 in
     record {
       vertices = omega (arith, vertices);
@@ -236,7 +236,7 @@ pub printed_code : (asked : Planning) (text : List ℕ) (status : Status) (print
     → (h : IsPlanned asked text status printed table) → ReadsAs printed h.plan.code
 printed_code asked text status printed table limits h =
     let well : IsWellFormed h.kernel = kernels_are_well_formed text h.kernel h.accepted.reads in
-    let facts = facts_of h.graph asked h.plan in
+    let facts = facts_of h.graph asked h.plan.numbers in
     let title = name_has_not 10 (omega arith) no_feed h.kernel.title (name_is_name h.kernel.title well.title) in
     let lines = report_is_lines h.kernel.title facts title (plan_facts_small asked text status printed table limits h) in
     subst (λ t. ReadsAs t h.plan.code) (sym h.report)

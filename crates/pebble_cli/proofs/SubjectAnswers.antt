@@ -1,16 +1,17 @@
 -- How the answer of a command to its kernel becomes its answer to the input, as far as the desk tells it.
-use Rattle.std.proofs.Common.{◌≡◌, ◌⊎◌, ℕ, true, List, Option, Some, None, Result, Err, inl, inr, refl, sym, ap, subst}
+use Rattle.std.proofs.Common.{◌≡◌, ◌⊎◌, ◌≤◌, ◌∙◌, ℕ, true, false, List, [], Option, Some, None, Result, Err, inl, inr, refl, sym, ap, subst}
 use Rattle.desk_io.specs.declared.desk.Kind.{Kind}
 use Rattle.desk_io.specs.declared.desk.Kind.TheVariants.{TakeFile}
 use Rattle.desk_io.specs.Counts.{Rose}
 use Rattle.desk_io.specs.Known.{Tells}
+use Rattle.kernel_gen.specs.Trials.{trial_kernel}
 use Rattle.scratch_machine.specs.Codes.{CodeParts}
 use Rattle.pebble_cli.specs.declared.answer.Answer.{Answer}
 use Rattle.pebble_cli.specs.declared.answer.EarlyEnd.{EarlyEnd}
 use Rattle.pebble_cli.specs.declared.answer.EarlyEnd.TheVariants.{Refused, ReadFault, NoMemory}
 use Rattle.pebble_cli.specs.declared.commands.Command.{Command}
-use Rattle.pebble_cli.specs.declared.commands.Command.TheVariants.{Plan, Check, Run, Exec, Graph}
-use Rattle.pebble_cli.specs.declared.commands.Subject.TheVariants.{InputKernel, InputCode}
+use Rattle.pebble_cli.specs.declared.commands.Command.TheVariants.{Plan, Check, Run, Exec, Graph, Trial}
+use Rattle.pebble_cli.specs.declared.commands.Subject.TheVariants.{InputKernel, InputCode, TrialKernel}
 use Rattle.pebble_cli.specs.Answers.{Answers, usage, faulty_kernel, no_code, last_answer, IsAdmitted, code_input}
 use Rattle.pebble_cli.specs.CodeInputs.{IsCodeInput, IsNoCode}
 use Rattle.pebble_cli.specs.Commands.{subject, kernel_text, reads_file}
@@ -18,6 +19,7 @@ use Rattle.pebble_cli.specs.ExecAnswers.{Executes}
 use Rattle.pebble_cli.specs.Faults.{ReadCause, of_file}
 use Rattle.pebble_cli.specs.MadeAnswers.{Meets, AnswersInput, IfRefused, IfAnswer}
 use Rattle.pebble_cli.specs.Refusals.{IsUsage, IsFaulty}
+use Rattle.pebble_cli.specs.Words.{IsInLimits}
 use Rattle.pebble_cli.proofs.KernelAnswers.{more_of}
 use Rattle.pebble_cli.proofs.ToldBytes.{told_text}
 
@@ -63,6 +65,7 @@ only_exec (Check asked) e = absurd (cc)
 only_exec Run e = absurd (cc)
 only_exec Exec e = refl
 only_exec Graph e = absurd (cc)
+only_exec (Trial asked) e = absurd (cc)
 
 -- a code that is too long
 pub long_code_answers : {A : Type 0} (r : Result Answer EarlyEnd) (text : Result A EarlyEnd) (end : EarlyEnd) (command : Command) (known : Option (List ℕ)) (file : Option (Option (List ℕ)))
@@ -95,6 +98,48 @@ pub code_file_fault : (command : Command) (known : Option (List ℕ)) (text : Li
 code_file_fault command known text before mid now told e same cause =
     of_file command refl (ap (λ c. reads_file (Some c)) (only_exec command e)) (record { text = text; told = told; admitted = code_input cause.0.0 e cause.0.1 })
     (subst (λ n. Rose n (now TakeFile)) same cause.1)
+
+-- ---- a trial kernel
+
+-- the text of a trial kernel is the command's, whatever stands in the input
+pub trial_is_text : (command : Command) (statements : ℕ) (input : List ℕ) → subject command ≡ TrialKernel statements → kernel_text (subject command) input ≡ Some (trial_kernel statements)
+trial_is_text command statements input is = ap (λ s. kernel_text s input) is
+
+-- the numbers of a trial are in their range
+pub trial_in_limits : (command : Command) (statements : ℕ) → subject command ≡ TrialKernel statements → IsInLimits command → (1 ≤ statements) × (statements ≤ 200)
+trial_in_limits (Plan asked) statements e limits = absurd (cc)
+trial_in_limits (Check asked) statements e limits = absurd (cc)
+trial_in_limits Run statements e limits = absurd (cc)
+trial_in_limits Exec statements e limits = absurd (cc)
+trial_in_limits Graph statements e limits = absurd (cc)
+trial_in_limits (Trial asked) statements e limits = let same : asked.statements ≡ statements = cc in subst (λ n. (1 ≤ n) × (n ≤ 200)) same limits.0
+
+-- a trial reads no file
+trial_reads_nothing : (command : Command) (statements : ℕ) → subject command ≡ TrialKernel statements → reads_file (Some command) ≡ false
+trial_reads_nothing (Plan asked) statements e = refl
+trial_reads_nothing (Check asked) statements e = absurd (cc)
+trial_reads_nothing Run statements e = absurd (cc)
+trial_reads_nothing Exec statements e = absurd (cc)
+trial_reads_nothing Graph statements e = refl
+trial_reads_nothing (Trial asked) statements e = refl
+
+-- what answers the trial kernel answers any input
+pub trial_answers : (r : Result Answer EarlyEnd) (command : Command) (statements : ℕ) (known : Option (List ℕ)) (text : List ℕ) (file : Option (Option (List ℕ)))
+    → subject command ≡ TrialKernel statements → text ≡ trial_kernel statements
+    → ((input : List ℕ) → kernel_text (subject command) input ≡ Some text → IfAnswer r (Meets (Answers (Some command) input file)))
+    → IfAnswer r (AnswersInput (Some command) known file)
+trial_answers r command statements known text file e is h =
+    let told = told_text known in
+    more_of r (Meets (Answers (Some command) told.0 file)) (AnswersInput (Some command) known file) (λ a k. (told.0, told.1, k))
+    (h told.0 (trial_is_text command statements told.0 e ∙ ap (λ t. Some t) (sym is)))
+
+-- no take of the file fails for it
+pub trial_file_fault : {X : Type 0} (command : Command) (statements : ℕ) (text : List ℕ) (before now : Kind → ℕ) → subject command ≡ TrialKernel statements → text ≡ trial_kernel statements
+    → ((input : List ℕ) → kernel_text (subject command) input ≡ Some text → (reads_file (Some command) ≡ true) × IsAdmitted command input × Rose (before TakeFile) (now TakeFile)) → X
+trial_file_fault command statements text before now e is h =
+    let cause = h [] (trial_is_text command statements [] e ∙ ap (λ t. Some t) (sym is)) in
+    let none = trial_reads_nothing command statements e in
+    absurd (let both : true ≡ false = sym cause.0 ∙ none in cc)
 
 -- words that spell no command
 pub usage_answers : (command : Option Command) (known : Option (List ℕ)) (file : Option (Option (List ℕ))) (a : Answer) → command ≡ None → Meets IsUsage a → AnswersInput command known file a

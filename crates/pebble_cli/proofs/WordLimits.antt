@@ -4,9 +4,9 @@ use Rattle.std.proofs.lemmas.Bool.{and_parts, leb-true}
 use Rattle.std.specs.Prelude.{codes}
 use Rattle.std.specs.Str.{bytes_eq}
 use Rattle.pebble_cli.specs.declared.commands.Command.{Command}
-use Rattle.pebble_cli.specs.declared.commands.Command.TheVariants.{Plan, Check, Run, Exec, Graph}
+use Rattle.pebble_cli.specs.declared.commands.Command.TheVariants.{Plan, Check, Run, Exec, Graph, Trial}
 use Rattle.pebble_cli.specs.AnswerLaws.{WordsAreInLimits}
-use Rattle.pebble_cli.specs.Words.{number, plan_command, check_command, values_command, digits_after, default_budget, IsInLimits}
+use Rattle.pebble_cli.specs.Words.{number, plan_command, check_command, trial_command, values_command, digits_after, default_budget, IsInLimits}
 
 -- a choice that gives something passed its test
 chosen : {A : Type 0} (test : Bool) (choice : Option A) (found : A) → cond test choice None ≡ Some found → (test ≡ true) × (choice ≡ Some found)
@@ -48,6 +48,15 @@ check_in_limits (Some slots) (c ∷ cs) asked few e =
     let same : Check (record { slots = slots }) ≡ asked = cc in
     subst IsInLimits same (few slots refl)
 
+trial_in_limits : (statements slots : Option ℕ) (table : List ℕ) (asked : Command) → ((n : ℕ) → statements ≡ Some n → (1 ≤ n) × (n ≤ 200)) → ((n : ℕ) → slots ≡ Some n → (1 ≤ n) × (n ≤ 64))
+    → trial_command statements slots table ≡ Some asked → IsInLimits asked
+trial_in_limits None slots table asked many few e = absurd (cc)
+trial_in_limits (Some statements) None table asked many few e = absurd (cc)
+trial_in_limits (Some statements) (Some slots) [] asked many few e = absurd (cc)
+trial_in_limits (Some statements) (Some slots) (c ∷ cs) asked many few e =
+    let same : Trial (record { statements = statements; slots = slots }) ≡ asked = cc in
+    subst IsInLimits same (many statements refl, few slots refl)
+
 pub words_are_in_limits : WordsAreInLimits
 words_are_in_limits [] asked e = absurd (cc)
 words_are_in_limits (name ∷ []) asked e =
@@ -63,7 +72,9 @@ words_are_in_limits (name ∷ slots ∷ table ∷ []) asked e =
       | inl plan ↦ plan_in_limits (number 1 64 slots) table (Some default_budget) asked (number_in_range 1 64 slots) (λ n is. let same : default_budget ≡ n = cc in omega (arith, same)) plan
       | inr other ↦ check_in_limits (number 1 64 slots) table asked (number_in_range 1 64 slots) (chosen (bytes_eq name (codes "check")) (check_command (number 1 64 slots) table) asked other).1
     ]
-words_are_in_limits (name ∷ slots ∷ table ∷ budget ∷ []) asked e =
-    plan_in_limits (number 1 64 slots) table (number 0 150000 budget) asked (number_in_range 1 64 slots) (λ n is. (number_in_range 0 150000 budget n is).1)
-    (chosen (bytes_eq name (codes "plan")) (plan_command (number 1 64 slots) table (number 0 150000 budget)) asked e).1
-words_are_in_limits (name ∷ slots ∷ table ∷ budget ∷ other ∷ more) asked e = absurd (cc)
+words_are_in_limits (name ∷ first ∷ second ∷ third ∷ []) asked e = elim (chosen_or (bytes_eq name (codes "plan")) (plan_command (number 1 64 first) second (number 0 150000 third)) _ asked e) [
+  | inl plan ↦ plan_in_limits (number 1 64 first) second (number 0 150000 third) asked (number_in_range 1 64 first) (λ n is. (number_in_range 0 150000 third n is).1) plan
+  | inr other ↦ trial_in_limits (number 1 200 first) (number 1 64 second) third asked (number_in_range 1 200 first) (number_in_range 1 64 second)
+      (chosen (bytes_eq name (codes "trial")) (trial_command (number 1 200 first) (number 1 64 second) third) asked other).1
+]
+words_are_in_limits (name ∷ first ∷ second ∷ third ∷ other ∷ more) asked e = absurd (cc)

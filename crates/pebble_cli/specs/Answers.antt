@@ -6,7 +6,7 @@ use Rattle.comp_graph.specs.Graphs.{GraphParts, dag_of}
 use Rattle.desk_io.specs.Known.{Tells}
 use Rattle.kernel_ast.specs.KernelParts.{KernelParts}
 use Rattle.pebble_cli.specs.declared.commands.Command.{Command}
-use Rattle.pebble_cli.specs.declared.commands.Command.TheVariants.{Plan, Check, Run, Exec, Graph}
+use Rattle.pebble_cli.specs.declared.commands.Command.TheVariants.{Plan, Check, Run, Exec, Graph, Trial}
 use Rattle.pebble_cli.specs.declared.commands.Subject.TheVariants.{InputCode}
 use Rattle.pebble_cli.specs.declared.status.Status.{Status}
 use Rattle.pebble_cli.specs.Accepted.{IsAccepted}
@@ -18,6 +18,7 @@ use Rattle.pebble_cli.specs.GraphAnswers.{IsDrawn}
 use Rattle.pebble_cli.specs.PlanAnswers.{IsPlanned}
 use Rattle.pebble_cli.specs.Refusals.{IsUsage, IsFaulty, IsTooSmall}
 use Rattle.pebble_cli.specs.RunAnswers.{Runs}
+use Rattle.pebble_cli.specs.TrialAnswers.{IsTried}
 use Rattle.scratch_machine.specs.Codes.{CodeParts}
 
 -- the last answers of each command to an input and a file, as far as the desk tells the file
@@ -27,6 +28,7 @@ LastAnswers (Check asked) input file = Checks asked input file
 LastAnswers Run input file = Runs input file
 LastAnswers Exec input file = Executes input file
 LastAnswers Graph input file = IsDrawn input
+LastAnswers (Trial asked) input file = IsTried asked
 
 -- The status, the text and the table that answer words with this input and this file, as far as the desk tells the file: words that
 -- spell no command, a kernel with a fault, an input that is no code, too few slots, and else an answer of the command's own.

@@ -47,4 +47,4 @@ abbrev pub PlansAreAccepted : Type 0
 PlansAreAccepted = (asked : Planning) (input : List ℕ) (verdict : Status) (report bytes : List ℕ) → IsInLimits (Plan asked)
     → (plan : IsPlanned asked input verdict report (Some bytes)) → (status : Status) (printed : List ℕ) (table : Option (List ℕ))
     → Answers (Some (Check (record { slots = asked.slots }))) input (Some (Some bytes)) status printed table
-    → (status ≡ Done) × (printed ≡ accepted_text plan.plan.bound)
+    → (status ≡ Done) × (printed ≡ accepted_text plan.plan.numbers.bound)

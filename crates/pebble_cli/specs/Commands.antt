@@ -1,9 +1,10 @@
 -- What each command works on, its slots, and what it does with the file that its words name (this project's convention).
 use Rattle.std.specs.Prelude.{ℕ, Bool, true, false, List, Option, None, Some}
+use Rattle.kernel_gen.specs.Trials.{trial_kernel}
 use Rattle.pebble_cli.specs.declared.commands.Command.{Command}
-use Rattle.pebble_cli.specs.declared.commands.Command.TheVariants.{Plan, Check, Run, Exec, Graph}
+use Rattle.pebble_cli.specs.declared.commands.Command.TheVariants.{Plan, Check, Run, Exec, Graph, Trial}
 use Rattle.pebble_cli.specs.declared.commands.Subject.{Subject}
-use Rattle.pebble_cli.specs.declared.commands.Subject.TheVariants.{InputKernel, InputCode}
+use Rattle.pebble_cli.specs.declared.commands.Subject.TheVariants.{InputKernel, InputCode, TrialKernel}
 
 -- what a command does with the file
 pub data FileUse : Type 0 where
@@ -16,6 +17,7 @@ subject (Check asked) = InputKernel
 subject Run = InputKernel
 subject Exec = InputCode
 subject Graph = InputKernel
+subject (Trial asked) = TrialKernel asked.statements
 
 -- the number of its slots, if it has slots
 abbrev pub slots_of : Command → Option ℕ
@@ -24,6 +26,7 @@ slots_of (Check asked) = Some asked.slots
 slots_of Run = None
 slots_of Exec = None
 slots_of Graph = None
+slots_of (Trial asked) = Some asked.slots
 
 -- what it does with the file
 abbrev pub file_use : Command → FileUse
@@ -32,16 +35,19 @@ file_use (Check asked) = read
 file_use Run = read
 file_use Exec = read
 file_use Graph = untouched
+file_use (Trial asked) = written
 
 -- the text of the kernel that a subject is, with this input, if it is a kernel
 abbrev pub kernel_text : Subject → List ℕ → Option (List ℕ)
 kernel_text InputKernel input = Some input
 kernel_text InputCode input = None
+kernel_text (TrialKernel statements) input = Some (trial_kernel statements)
 
 -- the subject stands in the input
 abbrev pub is_in_input : Subject → Bool
 is_in_input InputKernel = true
 is_in_input InputCode = true
+is_in_input (TrialKernel statements) = false
 
 -- the file is read
 abbrev pub is_read : FileUse → Bool

@@ -53,4 +53,4 @@ abbrev pub PlansRunAsSources : Type 0
 PlansRunAsSources = (asked : Planning) (text : List ℕ) (status : Status) (printed : List ℕ) (table : Option (List ℕ)) → IsInLimits (Plan asked)
     → (h : IsPlanned asked text status printed table) → length printed ≤ 20000000 → (kernel : KernelParts) (graph : GraphParts) (bytes : List ℕ) (values : List ℤ) → IsAccepted text kernel graph → IsValuesFile kernel bytes values
     → (ran executed : Status) (lines more : List ℕ) (none other : Option (List ℕ)) → Answers (Some Run) text (Some (Some bytes)) ran lines none
-    → Answers (Some Exec) printed (Some (Some bytes)) executed more other → (ran ≡ Done) × (executed ≡ Done) × (more ≡ lines ++ transfers_text h.plan.cost)
+    → Answers (Some Exec) printed (Some (Some bytes)) executed more other → (ran ≡ Done) × (executed ≡ Done) × (more ≡ lines ++ transfers_text h.plan.numbers.cost)

@@ -20,5 +20,7 @@ pub mod Refusals
 pub mod RunAnswers
 pub mod RunLaws
 pub mod Status
+pub mod TrialAnswers
+pub mod TrialLaws
 pub mod ValuesFiles
 pub mod Words

@@ -14,7 +14,7 @@ use Rattle.pebble_cli.specs.declared.commands.Command.{Command}
 use Rattle.pebble_cli.specs.declared.status.Status.{Status}
 use Rattle.slot_alloc.specs.PlanCode.{plan_code}
 use Rattle.pebble_cli.specs.Answers.{Answers}
-use Rattle.pebble_cli.specs.PlanAnswers.{PrintedPlan}
+use Rattle.pebble_cli.specs.PlanAnswers.{PlanNumbers, PrintedPlan}
 
 -- the status, the text and the table of the answer are so related
 abbrev pub Meets : (Status → List ℕ → Option (List ℕ) → Type 0) → Answer → Type 0
@@ -48,13 +48,16 @@ abbrev pub is_optimal : Verdict → Bool
 is_optimal Optimal = true
 is_optimal Open = false
 
--- what is printed of what a search found: its numbers, its verdict, and the code of its plan
-abbrev pub printed_of : Found → PrintedPlan
-printed_of found = record {
+-- the numbers of what a search found, with its verdict
+abbrev pub numbers_of : Found → PlanNumbers
+numbers_of found = record {
   first = found.first_cost;
   cost = found.plan.total;
   bound = found.table.bound;
   expanded = length found.table.rows;
   optimal = is_optimal found.verdict;
-  code = plan_code found.plan;
 }
+
+-- what is printed of it: its numbers, and the code of its plan
+abbrev pub printed_of : Found → PrintedPlan
+printed_of found = record { numbers = numbers_of found; code = plan_code found.plan }

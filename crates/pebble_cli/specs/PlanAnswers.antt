@@ -1,5 +1,6 @@
 -- What `plan` answers to an accepted kernel with enough slots: the numbers that it prints, the verdict and the code, and when they answer
--- a kernel, a number of slots and a budget of positions. This is the promise of the program for a kernel that it accepts.
+-- a kernel, a number of slots and a budget of positions. This is the promise of the program for a kernel that it accepts. What is shown of
+-- the numbers and of the table, without the code, is a record of its own, which `trial` promises too.
 use Rattle.std.specs.Prelude.{◌≡◌, ℕ, ℤ, ◌≤◌, ◌<◌, ◌↔◌, Bool, true, false, List, ◌++◌, length, map, Option, Some, Ok}
 use Rattle.comp_graph.specs.Dags.{degree}
 use Rattle.comp_graph.specs.Graphs.{GraphParts, IsGraph, dag_of}
@@ -33,14 +34,18 @@ use Rattle.pebble_cli.specs.declared.status.Status.TheVariants.{Optimal, Open}
 use Rattle.pebble_cli.specs.Accepted.{IsAccepted}
 use Rattle.pebble_cli.specs.PlayedGames.{game_asked, played_for}
 
--- the printed numbers: the first plan's cost, the cost of the code and the lower bound, all in transfers, and the number of expanded
--- positions; whether the verdict is Optimal; and the code
-pub record PrintedPlan : Type 0 where
+-- the printed numbers: the first plan's cost, the cost of the plan that was found and the lower bound, all in transfers, and the number of
+-- expanded positions; and whether the verdict is Optimal
+pub record PlanNumbers : Type 0 where
   pub first : ℕ
   pub cost : ℕ
   pub bound : ℕ
   pub expanded : ℕ
   pub optimal : Bool
+
+-- the numbers of a plan, and its code
+pub record PrintedPlan : Type 0 where
+  pub numbers : PlanNumbers
   pub code : CodeParts
 
 -- the first plan of a game
@@ -63,6 +68,30 @@ plan_asked asked graph = record {
 abbrev pub rows_asked : Planning → GraphParts → List Row
 rows_asked asked graph = rows_of (search_asked asked graph).entries
 
+-- The numbers and the table are those of the plan that the search finds, on a graph with the slots and the budget of positions that are asked
+-- for.
+pub record IsShown (graph : GraphParts) (asked : Planning) (numbers : PlanNumbers) (table : TableParts) : Type 0 where
+  -- the printed cost of the first plan is its cost, and the answered plan costs no more
+  pub first : numbers.first ≡ (first_plan_of (game_asked asked graph)).total
+  pub no_more : numbers.cost ≤ numbers.first
+  -- the table has the numbers of the graph, the slots and the weights, and its rows strictly rise; it has the bound, with which it is valid,
+  -- and as many rows as positions were expanded
+  pub tabled : IsTableOf (played_for asked graph) table
+  pub bound : table.bound ≡ numbers.bound
+  pub expanded : length table.rows ≡ numbers.expanded
+  -- the rows with their costs are those of the search, and the cost is that of the plan that it finds
+  pub rows : HaveSameMembers (rows_asked asked graph) table.rows
+  pub cost : numbers.cost ≡ (plan_asked asked graph).total
+  -- the bound is the support of the rows and the cost
+  pub support : IsSupport (played_for asked graph) table.rows numbers.cost numbers.bound
+  -- no more positions than the budget were expanded; Optimal exactly where the bound is the cost; else as many positions as the budget
+  -- were expanded, and the bound is below the cost
+  pub few : numbers.expanded ≤ asked.budget
+  pub is_optimal : (numbers.optimal ≡ true) ↔ (numbers.bound ≡ numbers.cost)
+  pub is_open : (numbers.optimal ≡ false) ↔ ((numbers.expanded ≡ asked.budget) × (numbers.bound < numbers.cost))
+  -- no complete pebbling costs less than the bound, whatever it computes again, drops or moves in vain
+  pub lowest : (moves : List Move) → IsComplete (played_for asked graph) (start (played_for asked graph)) moves → numbers.bound ≤ moves_cost (played_for asked graph) moves
+
 -- On these values of the inputs the run of the code meets no empty slot or word, gives the outputs of the source, and makes this many
 -- loads and stores.
 pub record RunsRight (kernel : KernelParts) (code : CodeParts) (count : ℕ) (values : List ℤ) : Type 0 where
@@ -80,25 +109,9 @@ pub record PlaysPebbling (game : GameParts) (code : CodeParts) (count : ℕ) : T
 
 -- The plan and its table answer a kernel with this graph, with the slots and the budget of positions that are asked for.
 pub record IsAnswer (kernel : KernelParts) (graph : GraphParts) (asked : Planning) (plan : PrintedPlan) (table : TableParts) : Type 0 where
-  -- the printed cost of the first plan is its cost, and the answered plan costs no more
-  pub first : plan.first ≡ (first_plan_of (game_asked asked graph)).total
-  pub no_more : plan.cost ≤ plan.first
-  -- the table has the numbers of the graph, the slots and the weights, and its rows strictly rise; it has the bound, with which it is valid,
-  -- and as many rows as positions were expanded
-  pub tabled : IsTableOf (played_for asked graph) table
-  pub bound : table.bound ≡ plan.bound
-  pub expanded : length table.rows ≡ plan.expanded
-  -- the rows with their costs are those of the search, and the plan is the one that it finds: by its cost, and by the code of its steps
-  pub rows : HaveSameMembers (rows_asked asked graph) table.rows
-  pub cost : plan.cost ≡ (plan_asked asked graph).total
+  -- the numbers and the table are those of the plan that the search finds, and the code is that of its steps
+  pub shown : IsShown graph asked plan.numbers table
   pub code : plan.code ≡ plan_code (plan_asked asked graph)
-  -- the bound is the support of the rows and the cost
-  pub support : IsSupport (played_for asked graph) table.rows plan.cost plan.bound
-  -- no more positions than the budget were expanded; Optimal exactly where the bound is the cost; else as many positions as the budget
-  -- were expanded, and the bound is below the cost
-  pub few : plan.expanded ≤ asked.budget
-  pub is_optimal : (plan.optimal ≡ true) ↔ (plan.bound ≡ plan.cost)
-  pub is_open : (plan.optimal ≡ false) ↔ ((plan.expanded ≡ asked.budget) × (plan.bound < plan.cost))
   -- the code has these slots, names no slot or word that it has not, and has the labels of the kernel's input and output elements,
   -- in order of declaration and row by row
   pub code_slots : plan.code.slots ≡ asked.slots
@@ -107,31 +120,29 @@ pub record IsAnswer (kernel : KernelParts) (graph : GraphParts) (asked : Plannin
   pub code_outputs : map (λ (o : OutWord). o.label) plan.code.outputs ≡ labels_of Output kernel.decls
   -- the code is right on every list of as many values as the kernel has input elements, those of 64 bits among them, with exactly as many
   -- loads and stores as the cost
-  pub right : (values : List ℤ) → length values ≡ length (labels_of Input kernel.decls) → RunsRight kernel plan.code plan.cost values
+  pub right : (values : List ℤ) → length values ≡ length (labels_of Input kernel.decls) → RunsRight kernel plan.code plan.numbers.cost values
   -- the code plays a complete pebbling of its cost, so an operation never writes over the slot of an operand
-  pub played : PlaysPebbling (game_asked asked graph) plan.code plan.cost
-  -- no complete pebbling costs less than the bound, whatever it computes again, drops or moves in vain
-  pub lowest : (moves : List Move) → IsComplete (played_for asked graph) (start (played_for asked graph)) moves → plan.bound ≤ moves_cost (played_for asked graph) moves
+  pub played : PlaysPebbling (game_asked asked graph) plan.code plan.numbers.cost
 
 -- the values of the report's lines
-abbrev pub facts_of : GraphParts → Planning → PrintedPlan → Facts
-facts_of graph asked plan = record {
+abbrev pub facts_of : GraphParts → Planning → PlanNumbers → Facts
+facts_of graph asked numbers = record {
   vertices = length graph.nodes;
   inputs = length graph.names;
   degree = degree (dag_of graph);
   slots = asked.slots;
   weights = (game_asked asked graph).weights;
-  first = plan.first;
-  cost = plan.cost;
-  bound = plan.bound;
-  expanded = plan.expanded;
+  first = numbers.first;
+  cost = numbers.cost;
+  bound = numbers.bound;
+  expanded = numbers.expanded;
   budget = asked.budget;
-  optimal = plan.optimal;
+  optimal = numbers.optimal;
 }
 
 -- the report and then the code
 abbrev pub plan_text : List ℕ → GraphParts → Planning → PrintedPlan → List ℕ
-plan_text title graph asked plan = report_text title (facts_of graph asked plan) ++ code_text plan.code
+plan_text title graph asked plan = report_text title (facts_of graph asked plan.numbers) ++ code_text plan.code
 
 -- the status of a verdict
 abbrev pub verdict_status : Bool → Status
@@ -149,7 +160,7 @@ pub record IsPlanned (asked : Planning) (text : List ℕ) (status : Status) (pri
   pub plan : PrintedPlan
   pub table_parts : TableParts
   pub answer : IsAnswer kernel graph asked plan table_parts
-  pub ends : status ≡ verdict_status plan.optimal
+  pub ends : status ≡ verdict_status plan.numbers.optimal
   pub report : printed ≡ plan_text kernel.title graph asked plan
   pub bytes : List ℕ
   pub written : table ≡ Some bytes

@@ -6,7 +6,7 @@ use Rattle.std.specs.Char.{is_ascii_digit}
 use Rattle.std.specs.List.{list_all}
 use Rattle.std.specs.Str.{bytes_eq}
 use Rattle.pebble_cli.specs.declared.commands.Command.{Command}
-use Rattle.pebble_cli.specs.declared.commands.Command.TheVariants.{Plan, Check, Run, Exec, Graph}
+use Rattle.pebble_cli.specs.declared.commands.Command.TheVariants.{Plan, Check, Run, Exec, Graph, Trial}
 
 -- the number that digits spell, after the digits so far
 abbrev pub digits_after : ℕ → List ℕ → ℕ
@@ -45,8 +45,14 @@ values_command asked (c ∷ values) = Some asked
 abbrev pub default_budget : ℕ
 default_budget = 20000
 
+-- the trial, where there are statements, slots, and a table's name that is not empty
+abbrev pub trial_command : Option ℕ → Option ℕ → List ℕ → Option Command
+trial_command (Some statements) (Some slots) (c ∷ table) = Some (Trial (record { statements = statements; slots = slots }))
+trial_command _ _ _ = None
+
 -- the command that the words spell: `plan S TABLE` with 1 to 64 slots, which may name a budget from 0 to 150,000 too, `check S TABLE` with 1
--- to 64 slots, `run VALUES`, `exec VALUES`, or `graph` (this project's convention); `file_word` gives the name of TABLE or VALUES
+-- to 64 slots, `run VALUES`, `exec VALUES`, `graph`, or `trial N S TABLE` with 1 to 200 statements and 1 to 64 slots (this project's
+-- convention); `file_word` gives the name of TABLE or VALUES
 abbrev pub command : List (List ℕ) → Option Command
 command (name ∷ []) = if bytes_eq name (codes "graph") then Some Graph else None
 command (name ∷ values ∷ []) =
@@ -55,8 +61,9 @@ command (name ∷ values ∷ []) =
 command (name ∷ slots ∷ table ∷ []) =
     if bytes_eq name (codes "plan") then plan_command (number 1 64 slots) table (Some default_budget)
     else (if bytes_eq name (codes "check") then check_command (number 1 64 slots) table else None)
-command (name ∷ slots ∷ table ∷ budget ∷ []) =
-    if bytes_eq name (codes "plan") then plan_command (number 1 64 slots) table (number 0 150000 budget) else None
+command (name ∷ first ∷ second ∷ third ∷ []) =
+    if bytes_eq name (codes "plan") then plan_command (number 1 64 first) second (number 0 150000 third)
+    else (if bytes_eq name (codes "trial") then trial_command (number 1 200 first) (number 1 64 second) third else None)
 command _ = None
 
 -- the command that the program's words spell
@@ -90,3 +97,4 @@ IsInLimits (Check asked) = (1 ≤ asked.slots) × (asked.slots ≤ 64)
 IsInLimits Run = Unit {0}
 IsInLimits Exec = Unit {0}
 IsInLimits Graph = Unit {0}
+IsInLimits (Trial asked) = ((1 ≤ asked.statements) × (asked.statements ≤ 200)) × ((1 ≤ asked.slots) × (asked.slots ≤ 64))

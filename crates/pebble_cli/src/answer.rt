@@ -12,6 +12,7 @@ pub mod kernel_fault;
 pub mod plan;
 pub mod run;
 pub mod too_small;
+pub mod trial;
 pub mod usage;
 pub mod values;
 

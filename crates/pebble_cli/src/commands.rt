@@ -13,6 +13,8 @@ pub enum Command {
     Exec,
     /// `graph`: the graph of the source.
     Graph,
+    /// `trial`: the plan of a trial kernel.
+    Trial(TrialPlanning),
 }
 
 /// What `plan` asks for.
@@ -31,6 +33,15 @@ pub struct Checking {
     pub slots: u16,
 }
 
+/// What `trial` asks for.
+#[derive(Clone, Copy, Debug, PartialEq, Eq)]
+pub struct TrialPlanning {
+    /// The number of statements of the kernel, from 1 to 200.
+    pub statements: u32,
+    /// The number of slots, from 1 to 64.
+    pub slots: u16,
+}
+
 /// What a command works on.
 #[derive(Clone, Copy, Debug, PartialEq, Eq)]
 pub enum Subject {
@@ -38,6 +49,8 @@ pub enum Subject {
     InputKernel,
     /// The code whose text the input is.
     InputCode,
+    /// The trial kernel with this many statements.
+    TrialKernel(u32),
 }
 
 impl Command {
@@ -53,6 +66,7 @@ impl Command {
                 Subject::InputKernel
             }
             Command::Exec => Subject::InputCode,
+            Command::Trial(asked) => Subject::TrialKernel(asked.statements),
         }
     }
 }

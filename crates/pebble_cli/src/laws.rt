@@ -7,6 +7,7 @@ pub mod exec;
 pub mod graph;
 pub mod plan;
 pub mod run;
+pub mod trial;
 
 /// Each text has exactly one of two: it is accepted, with one kernel and one graph, or it has a fault, with one code and one place.
 pub fn accepted_or_fault()

@@ -14,7 +14,7 @@ mod status;
 mod top;
 mod words;
 
-pub use commands::{Checking, Command, Planning, Subject};
+pub use commands::{Checking, Command, Planning, Subject, TrialPlanning};
 pub use status::Status;
 pub use top::{pebble, pebble_honest};
 pub use words::read::file_word;

@@ -1,5 +1,5 @@
 //! The whole answer of a run, before anything is written.
-ghost use Rattle.std.specs.Prelude.{◌≡◌, ◌⊎◌, ◌<◌, ◌≤◌, ℕ, List, length, true, false, IfOk, IfErr, Err, Some};
+ghost use Rattle.std.specs.Prelude.{◌≡◌, ◌≢◌, ◌⊎◌, ◌<◌, ◌≤◌, ℕ, List, length, true, false, IfOk, IfErr, Err, Some};
 ghost use Rattle.comp_graph.specs.Dags.{degree};
 ghost use Rattle.comp_graph.specs.Games.{unit_weights};
 ghost use Rattle.comp_graph.specs.Graphs.{dag_of};
@@ -32,6 +32,7 @@ use crate::answer::kernel_fault::accepted_kernel;
 use crate::answer::plan::plan_answer;
 use crate::answer::run::run_answer;
 use crate::answer::too_small::played_game;
+use crate::answer::trial::trial_answer;
 use crate::answer::usage::usage_answer;
 use crate::answer::values::VALUES_LIMIT;
 use crate::answer::{Answer, EarlyEnd};
@@ -42,6 +43,7 @@ use crate::status::Status;
 use crate::words::read;
 use comp_graph::{Game, Graph};
 use desk_io::Desk;
+use kernel_gen::trial;
 use std::alloc::Global;
 
 // The answer of `run` to an accepted kernel and what its file holds.
@@ -139,7 +141,7 @@ fn kernel_answer<D: Desk>(
     text: &[u8],
 ) -> Result<Answer, EarlyEnd>
     requires limits { IsInLimits command }
-    requires kernel { subject command ≡ Subject.InputKernel }
+    requires kernel { subject command ≢ Subject.InputCode }
     ensures answers { (input : List ℕ) → kernel_text (subject command) input ≡ Some text.now →
         IfAnswer result (Meets (Answers (Some command) input (D.file desk.old))) }
     ensures fault { (input : List ℕ) → kernel_text (subject command) input ≡ Some text.now →
@@ -159,6 +161,7 @@ fn kernel_answer<D: Desk>(
         // Its subject is no kernel.
         Command::Exec => unreachable!(),
         Command::Graph => graph_answer(alloc, &accepted.graph),
+        Command::Trial(asked) => trial_answer(alloc, accepted.graph, asked),
     }
 }
 
@@ -188,6 +191,10 @@ fn command_answer<D: Desk>(
         Subject::InputCode => {
             let text = code_input(alloc, desk)?;
             exec_on_file(alloc, desk, &text)
+        }
+        Subject::TrialKernel(statements) => {
+            let kernel = trial(alloc, statements)?;
+            kernel_answer(alloc, desk, command, &kernel)
         }
     }
 }

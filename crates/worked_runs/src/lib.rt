@@ -13,3 +13,5 @@ mod outputs;
 mod plans;
 #[cfg(test)]
 mod searches;
+#[cfg(test)]
+mod trials;

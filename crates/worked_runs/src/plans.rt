@@ -129,7 +129,7 @@ fn check_row(rt: &impl Abort, alloc: Global, row: Row) -> Result<(), TestFail> {
 }
 
 /// Words that spell no command.
-const USAGES: [&str; 17] = [
+const USAGES: [&str; 22] = [
     "plan 0 t",
     "plan 02 t",
     "plan 65 t 0",
@@ -140,6 +140,11 @@ const USAGES: [&str; 17] = [
     "plan 2",
     "plan 2 t 0 0",
     "trial 201 3 t",
+    "trial 0 3 t",
+    "trial 01 3 t",
+    "trial 1 65 t",
+    "trial 1 3",
+    "trial 1 3 t t",
     "check 65 t",
     "graph g",
     "run",

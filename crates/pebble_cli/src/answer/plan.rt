@@ -8,7 +8,7 @@ ghost use Rattle.potential_cert.specs.TableBytes.{IsInRange, IsSpelling};
 ghost use Rattle.scratch_code.specs.CodeText.{code_text};
 ghost use Rattle.slot_alloc.specs.PlanCode.{plan_code};
 ghost use Rattle.pebble_cli.specs.Accepted.{IsAccepted};
-ghost use Rattle.pebble_cli.specs.MadeAnswers.{Meets, IfAnswer, is_optimal, printed_of};
+ghost use Rattle.pebble_cli.specs.MadeAnswers.{Meets, IfAnswer, is_optimal, numbers_of, printed_of};
 ghost use Rattle.pebble_cli.specs.PlanAnswers.{IsPlanned, facts_of, plan_text, verdict_status};
 ghost use Rattle.pebble_cli.specs.PlayedGames.{game_asked};
 ghost use Rattle.pebble_cli.specs.Refusals.{IsTooSmall};
@@ -48,10 +48,10 @@ fn status_of(verdict: Verdict) -> Status
 }
 
 // The values of the report's lines for what a search found.
-fn facts_of_found<'g>(game: &Game, found: &Found<'g>, asked: Planning) -> Facts
+pub(super) fn facts_of_found<'g>(game: &Game, found: &Found<'g>, asked: Planning) -> Facts
     requires game { game.now ≡ game_asked asked game.now.graph }
     requires few { length found.now.table.rows < 2 ^ 32 }
-    ensures value { result ≡ facts_of game.now.graph asked (printed_of found.now) }
+    ensures value { result ≡ facts_of game.now.graph asked (numbers_of found.now) }
     ensures valid { IsPlan found.now.plan }
 {
     let graph = game.graph();

@@ -1,11 +1,14 @@
 //! What the words of a command line spell.
 ghost use Rattle.std.specs.Prelude.{◌≡◌, ◌≤◌, ◌^◌, ◌<◌, true, ◌∷◌, [], length, SomeIff, IfSome, map, string_bytes};
-ghost use Rattle.pebble_cli.specs.Words.{are_digits, is_plain, digits_after, number, command, asked_by, file_named_by, word_at, IsInLimits};
+ghost use Rattle.pebble_cli.specs.Words.{are_digits, is_plain, digits_after, number, plan_command, trial_command, command, asked_by, file_named_by, word_at, IsInLimits};
 
-use crate::commands::{Checking, Command, Planning};
+use crate::commands::{Checking, Command, Planning, TrialPlanning};
 
 /// The greatest number of slots.
 const MOST_SLOTS: u32 = 64;
+
+/// The greatest number of statements of a trial kernel.
+const MOST_STATEMENTS: u32 = 200;
 
 /// The greatest budget.
 const MOST_BUDGET: u32 = 150_000;
@@ -57,8 +60,8 @@ fn number(low: u32, high: u32, word: &str) -> Option<u32>
 }
 
 /// The command that the words spell: `plan S TABLE`, `plan S TABLE BUDGET` or `check S TABLE`, with S from 1 to 64 and BUDGET from 0 to
-/// 150,000 in plain decimal and TABLE any word that is not empty; `run VALUES` or `exec VALUES`, with VALUES any word that is not empty; or
-/// `graph`. All other words spell none. Without a BUDGET it is 20,000.
+/// 150,000 in plain decimal and TABLE any word that is not empty; `run VALUES` or `exec VALUES`, with VALUES any word that is not empty;
+/// `graph`; or `trial N S TABLE`, with N from 1 to 200. All other words spell none. Without a BUDGET it is 20,000.
 pub fn command(words: &[String]) -> Option<Command>
     ensures value { result ≡ asked_by words.now }
     ensures limits { IfSome result IsInLimits }
@@ -67,11 +70,11 @@ pub fn command(words: &[String]) -> Option<Command>
         [name] => graph_command(name.as_str()),
         [name, values] => values_command(name.as_str(), values.as_str()),
         [name, slots, table] => table_command(name.as_str(), slots.as_str(), table.as_str()),
-        [name, slots, table, budget] => plan_command(
+        [name, first, second, third] => four_word_command(
             name.as_str(),
-            slots.as_str(),
-            table.as_str(),
-            budget.as_str(),
+            first.as_str(),
+            second.as_str(),
+            third.as_str(),
         ),
         _ => None,
     }
@@ -130,11 +133,25 @@ fn table_command(name: &str, slots: &str, table: &str) -> Option<Command>
 }
 
 // The command of four words.
-fn plan_command(name: &str, slots: &str, table: &str, budget: &str) -> Option<Command>
-    ensures value { result ≡ command (name.now ∷ slots.now ∷ table.now ∷ budget.now ∷ []) }
+fn four_word_command(name: &str, first: &str, second: &str, third: &str) -> Option<Command>
+    ensures value { result ≡ command (name.now ∷ first.now ∷ second.now ∷ third.now ∷ []) }
     ensures limits { IfSome result IsInLimits }
 {
-    if name != "plan" || table.is_empty() {
+    if name == "plan" {
+        budgeted_plan(first, second, third)
+    } else if name == "trial" {
+        trial(first, second, third)
+    } else {
+        None
+    }
+}
+
+// The plan with these slots, this table and this budget.
+fn budgeted_plan(slots: &str, table: &str, budget: &str) -> Option<Command>
+    ensures value { result ≡ plan_command (number 1 64 slots.now) table.now (number 0 150000 budget.now) }
+    ensures limits { IfSome result IsInLimits }
+{
+    if table.is_empty() {
         return None;
     }
     let slots = number(1, MOST_SLOTS, slots)?;
@@ -142,6 +159,22 @@ fn plan_command(name: &str, slots: &str, table: &str, budget: &str) -> Option<Co
     Some(Command::Plan(Planning {
         slots: slots as u16,
         budget,
+    }))
+}
+
+// The trial with these statements, these slots and this table.
+fn trial(statements: &str, slots: &str, table: &str) -> Option<Command>
+    ensures value { result ≡ trial_command (number 1 200 statements.now) (number 1 64 slots.now) table.now }
+    ensures limits { IfSome result IsInLimits }
+{
+    if table.is_empty() {
+        return None;
+    }
+    let statements = number(1, MOST_STATEMENTS, statements)?;
+    let slots = number(1, MOST_SLOTS, slots)?;
+    Some(Command::Trial(TrialPlanning {
+        statements,
+        slots: slots as u16,
     }))
 }
 

@@ -1,5 +1,5 @@
 use super::read::{command, file_word};
-use crate::commands::{Checking, Command, Planning};
+use crate::commands::{Checking, Command, Planning, TrialPlanning};
 use std::alloc::{AllocError, Global};
 use std::test::Fail;
 
@@ -27,6 +27,12 @@ fn commands(rt: HostRuntime) -> Result<(), Fail> {
     let check = words(rt.alloc(), "check 64 t")?;
     let asked = Command::Check(Checking { slots: 64 });
     assert_eq!(rt; command(&check), Some(asked));
+    let trials = [("trial 1 3 t", 1, 3), ("trial 200 64 t", 200, 64)];
+    for (line, statements, slots) in trials {
+        let trial = words(rt.alloc(), line)?;
+        let asked = Command::Trial(TrialPlanning { statements, slots });
+        assert_eq!(rt; command(&trial), Some(asked));
+    }
     let run = words(rt.alloc(), "run v")?;
     assert_eq!(rt; command(&run), Some(Command::Run));
     let exec = words(rt.alloc(), "exec v")?;
@@ -45,6 +51,11 @@ fn commands(rt: HostRuntime) -> Result<(), Fail> {
         "plan 2 ",
         "plan 2  0",
         "check 2 t 0",
+        "trial 0 3 t",
+        "trial 201 3 t",
+        "trial 3 0 t",
+        "trial 3 65 t",
+        "trial 3 3 ",
         "check 65 t",
         "check 0 t",
         "check 02 t",

@@ -1,7 +1,8 @@
--- The answer to the kernel or the code in the input is the answer to the input.
+-- The answer to the kernel or the code in the input, or to the trial kernel, is the answer to the input.
 use Rattle.std.proofs.Common.{◌≡◌, ◌∙◌, Err, rules, sym, subst}
 use Rattle.desk_io.specs.Known.{Tells}
-use Rattle.pebble_cli.proofs.SubjectAnswers.{long_answers, told_answers, file_fault, long_code_answers, code_answers, code_file_fault}
+use Rattle.pebble_cli.specs.declared.commands.Subject.TheVariants.{InputKernel, InputCode}
+use Rattle.pebble_cli.proofs.SubjectAnswers.{long_answers, told_answers, file_fault, long_code_answers, code_answers, code_file_fault, trial_answers, trial_file_fault, trial_in_limits}
 use Rattle.pebble_cli.proofs.prepare.command_answer.Goals as goal
 
 -- ---- a kernel
@@ -14,7 +15,7 @@ returns-in_err-text-in-InputKernel-clause-answers g c =
     c.kernel_input.ensures.refused (sym c.subject.ensures ∙ c.in-InputKernel.is)
 
 pub kernel_answer-requires-clause-kernel : goal.kernel_answer-requires-clause-kernel
-kernel_answer-requires-clause-kernel g c = sym c.subject.ensures ∙ c.in-InputKernel.is
+kernel_answer-requires-clause-kernel g c = λ e. let other : InputKernel ≡ InputCode = sym c.in-InputKernel.is ∙ c.subject.ensures ∙ e in absurd (cc)
 
 pub returns-in_ok-text-in-InputKernel-clause-answers : goal.returns-in_ok-text-in-InputKernel-clause-answers
 returns-in_ok-text-in-InputKernel-clause-answers g c =
@@ -48,3 +49,18 @@ returns-in_ok-text-in-InputCode-clause-fault g c fault =
     let told = subst (Tells (g.D.Desk.input c.args.desk.now)) (sym c.deref-in-InputCode.ensures.value) c.in_ok-text-in-InputCode.ensures.told in
     code_file_fault c.args.command (g.D.Desk.input c.args.desk.now) c.deref-in-InputCode.result.now (g.D.Desk.faults c.args.desk.now) (g.D.Desk.faults c.code_input.new.desk)
     (g.D.Desk.faults c.exec_on_file.new.desk) told (sym c.subject.ensures ∙ c.in-InputCode.is) c.code_input.ensures.same_takes (c.exec_on_file.ensures.fault fault)
+
+-- ---- a trial kernel
+
+pub trial-requires : goal.trial-requires
+trial-requires g c = trial_in_limits c.args.command c.in-TrialKernel.statements (sym c.subject.ensures ∙ c.in-TrialKernel.is) c.requires
+
+pub returns-in_ok-kernel-in-TrialKernel-clause-answers : goal.returns-in_ok-kernel-in-TrialKernel-clause-answers
+returns-in_ok-kernel-in-TrialKernel-clause-answers g c =
+    trial_answers c.kernel_answer-in-TrialKernel.result c.args.command c.in-TrialKernel.statements (g.D.Desk.input c.args.desk.now) c.deref-in-TrialKernel.result.now (g.D.Desk.file c.args.desk.now)
+    (sym c.subject.ensures ∙ c.in-TrialKernel.is) (c.deref-in-TrialKernel.ensures.value ∙ c.in_ok-kernel-in-TrialKernel.ensures) c.kernel_answer-in-TrialKernel.ensures.answers
+
+pub returns-in_ok-kernel-in-TrialKernel-clause-fault : goal.returns-in_ok-kernel-in-TrialKernel-clause-fault
+returns-in_ok-kernel-in-TrialKernel-clause-fault g c fault =
+    trial_file_fault c.args.command c.in-TrialKernel.statements c.deref-in-TrialKernel.result.now (g.D.Desk.faults c.args.desk.now) (g.D.Desk.faults c.kernel_answer-in-TrialKernel.new.desk)
+    (sym c.subject.ensures ∙ c.in-TrialKernel.is) (c.deref-in-TrialKernel.ensures.value ∙ c.in_ok-kernel-in-TrialKernel.ensures) (λ input e. c.kernel_answer-in-TrialKernel.ensures.fault input e fault)

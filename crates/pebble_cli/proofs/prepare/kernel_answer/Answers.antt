@@ -1,8 +1,7 @@
 -- The answer of each command.
-use Rattle.std.proofs.Common.{◌≡◌, ◌∙◌, Err, rules, sym, ap}
-use Rattle.pebble_cli.specs.declared.commands.Subject.TheVariants.{InputKernel, InputCode}
+use Rattle.std.proofs.Common.{◌≡◌, Err, rules, ap}
 use Rattle.pebble_cli.specs.Commands.{subject}
-use Rattle.pebble_cli.proofs.KernelAnswers.{faulty_answers, planned_answers, checked_answers, ran_answers, drawn_answers, checked_fault, ran_fault}
+use Rattle.pebble_cli.proofs.KernelAnswers.{faulty_answers, planned_answers, checked_answers, ran_answers, drawn_answers, tried_answers, checked_fault, ran_fault}
 use Rattle.pebble_cli.proofs.prepare.kernel_answer.Goals as goal
 
 pub returns-in_err-accepted-clause-answers : goal.returns-in_err-accepted-clause-answers
@@ -43,6 +42,9 @@ returns-in-Graph-clause-answers g c = λ input e.
     (c.graph_answer.ensures.answers c.args.text.now c.in_ok-accepted.accepted.kernel c.in_ok-accepted.ensures.accepted)
 
 pub unreachable-requires : goal.unreachable-requires
-unreachable-requires g c =
-    let none : InputCode ≡ InputKernel = sym (ap subject c.in-Exec.is) ∙ c.requires.kernel in
-    absurd (cc)
+unreachable-requires g c = absurd (c.requires.kernel (ap subject c.in-Exec.is))
+
+pub returns-in-Trial-clause-answers : goal.returns-in-Trial-clause-answers
+returns-in-Trial-clause-answers g c = λ input e.
+    tried_answers c.trial_answer.result c.args.command c.in-Trial.asked input c.args.text.now (g.D.Desk.file c.args.desk.now) c.in_ok-accepted.accepted.kernel c.in_ok-accepted.accepted.graph c.in-Trial.is e
+    c.in_ok-accepted.ensures.accepted c.trial_answer.ensures.answers
