@@ -19,6 +19,10 @@ use Rattle.pebble_cli.proofs.AnswerLaws.{Kinds, faulty, not_code, small, last, k
 
 -- ---- writes
 
+-- where no write was tried in vain before, and none after, none was
+pub then_same : {before mid now : Kind → ℕ} → SameWriteFaults before mid → SameWriteFaults mid now → SameWriteFaults before now
+then_same a b = record { output = b.output ∙ a.output; file = b.file ∙ a.file; clear = b.clear ∙ a.clear }
+
 -- where a write was cut short, the count of its kind rose
 pub cut_rose : {D : Type 0} (file : D → Option (Option (List ℕ))) (output : D → Option (List ℕ)) (faults : D → Kind → ℕ) (first old new : D) (printed : List ℕ) (table : Option (List ℕ))
     → SameWriteFaults (faults first) (faults old) → CutShort file output faults old new printed table → (kind : Kind) × Rose (faults first kind) (faults new kind)

@@ -2,7 +2,7 @@
 ghost use Rattle.std.specs.Prelude.{◌≡◌, OnOk, OnErr};
 ghost use Rattle.desk_io.specs.declared.desk.Kind.{Kind};
 ghost use Rattle.desk_io.specs.Known.{file_items};
-ghost use Rattle.pebble_cli.specs.Deliver.{Delivered, CutShort};
+ghost use Rattle.pebble_cli.specs.Deliver.{Delivered, CutShort, SameWriteFaults};
 
 use crate::answer::Answer;
 use desk_io::{Desk, WriteFault, write_file, write_output};
@@ -14,6 +14,7 @@ pub fn deliver<D: Desk>(desk: &mut D, answer: &Answer) -> Result<(), WriteFault>
         answer.now.text.items (file_items answer.now.table)) }
     ensures fault { OnErr result (CutShort D.file D.output D.faults desk.old desk.new
         answer.now.text.items (file_items answer.now.table)) }
+    ensures no_fault { OnOk result (SameWriteFaults (D.faults desk.old) (D.faults desk.new)) }
     ensures same_name { D.name desk.new ≡ D.name desk.old }
     ensures same_input { D.input desk.new ≡ D.input desk.old }
     ensures same_taken { (D.faults desk.new Kind.TakeInput ≡ D.faults desk.old Kind.TakeInput)

@@ -28,7 +28,7 @@ use std::alloc::Global;
 /// First the words are read, the input if they spell a command that reads it, and the file where the command reads it, and the whole
 /// answer is made, which takes all memory; then the table, if there is one, is written to the file, and last the text to the output. What
 /// is said of bytes holds where the desk tells them. `Answers` says what is answered; the laws of `laws::answers` say that it has
-/// one status, and where each status comes.
+/// one status, and where each refusal comes, and a file of laws for each command where its own statuses come.
 pub fn pebble<D: Desk>(alloc: Global, words: &[String], desk: &mut D) -> Status
     requires { D.name desk.old ≡ file_named_by words.now }
 
@@ -72,6 +72,15 @@ pub fn pebble<D: Desk>(alloc: Global, words: &[String], desk: &mut D) -> Status
     ensures silent { (result ≡ Status.ReadFault) ⊎ (result ≡ Status.NoMemory) →
         (D.file desk.new ≡ D.file desk.old) × (D.output desk.new ≡ D.output desk.old)
         × SameWriteFaults (D.faults desk.old) (D.faults desk.new) }
+
+    // Complete: where the desk tells an input that nothing refuses, and no call of the desk fails, an answer of the command's own comes, or
+    // memory was not found.
+    ensures complete { (asked : Command) (text : List ℕ) → asked_by words.now ≡ Some asked → D.input desk.old ≡ Some text →
+        IsAdmitted asked text → ((kind : Kind) → Rose (D.faults desk.old kind) (D.faults desk.new kind) → ⊥) →
+        (is_last result ≡ true) ⊎ (result ≡ Status.NoMemory) }
+
+    // No write was tried in vain, but where a write fault is answered.
+    ensures no_vain_write { result ≢ Status.WriteFault → SameWriteFaults (D.faults desk.old) (D.faults desk.new) }
 
     // Where no call of the desk fails, there is no read fault and no write fault.
     ensures calm { ((kind : Kind) → Rose (D.faults desk.old kind) (D.faults desk.new kind) → ⊥) →

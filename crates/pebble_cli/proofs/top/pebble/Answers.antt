@@ -3,8 +3,8 @@ use Rattle.std.proofs.Common.{◌∙◌, inl, inr, subst, sym}
 use Rattle.desk_io.specs.Known.{file_items}
 use Rattle.pebble_cli.specs.Answers.{Answers}
 use Rattle.pebble_cli.specs.Words.{asked_by}
-use Rattle.pebble_cli.proofs.AnswerLaws.{kind_of, one_answer, no_fault, usage_only, to_usage, tables_are_of_writers, refused_without_table, no_answer_without_file}
-use Rattle.pebble_cli.proofs.Delivering.{cut_rose, cut_from, cut_keeps, cause_of_end, no_table_keeps, cause_rose, no_cause, end_is_yielded, end_is_not_of_read, write_fault_is_not_of_read, end_is_fault_or_none, end_is_no_verdict, end_without_cause, answer_is_no_end, no_memory_is_no_fault, verdict_of_plan}
+use Rattle.pebble_cli.proofs.AnswerLaws.{kind_of, last_always, one_answer, no_fault, usage_only, to_usage, tables_are_of_writers, refused_without_table, no_answer_without_file}
+use Rattle.pebble_cli.proofs.Delivering.{cut_rose, cut_from, then_same, cut_keeps, cause_of_end, no_table_keeps, cause_rose, no_cause, end_is_yielded, end_is_not_of_read, write_fault_is_not_of_read, end_is_fault_or_none, end_is_no_verdict, end_without_cause, answer_is_no_end, no_memory_is_no_fault, verdict_of_plan}
 use Rattle.pebble_cli.proofs.ToldBytes.{told_is}
 use Rattle.pebble_cli.proofs.top.pebble.Goals as goal
 
@@ -57,6 +57,17 @@ returns-in-Ok-deliver-clause-missing g c asked text asks reads input admitted he
 pub returns-in-Ok-deliver-clause-silent : goal.returns-in-Ok-deliver-clause-silent
 returns-in-Ok-deliver-clause-silent g c ended = answer_is_no_end (no_fault _ _ _ _ _ _ c.in-Ok.ensures.answers.2) ended
 
+pub returns-in-Ok-deliver-clause-complete : goal.returns-in-Ok-deliver-clause-complete
+returns-in-Ok-deliver-clause-complete g c asked text asks input admitted calm =
+    let told = c.in-Ok.ensures.answers in
+    let answer = c.in-Ok.answer in
+    let same = told_is _ told.0 text told.1 input in
+    let here = subst (λ t. Answers (asked_by c.args.words.now) t (g.D.Desk.file c.args.desk.now) answer.status answer.text.items (file_items answer.table)) same told.2 in
+    inl (last_always _ _ _ _ _ _ here asked asks admitted)
+
+pub returns-in-Ok-deliver-clause-no_vain_write : goal.returns-in-Ok-deliver-clause-no_vain_write
+returns-in-Ok-deliver-clause-no_vain_write g c other = then_same c.prepare.ensures.write_faults c.in-Ok-deliver.ensures.no_fault
+
 pub returns-in-Ok-deliver-clause-calm : goal.returns-in-Ok-deliver-clause-calm
 returns-in-Ok-deliver-clause-calm g c calm =
     let none = no_fault _ _ _ _ _ _ c.in-Ok.ensures.answers.2 in
@@ -105,6 +116,11 @@ returns-clause-missing g c asked text asks reads input admitted held =
     let here = subst (λ t. Answers (asked_by c.args.words.now) t (g.D.Desk.file c.args.desk.now) answer.status answer.text.items (file_items answer.table)) same told.2 in
     no_answer_without_file asked text answer.status answer.text.items (file_items answer.table) reads admitted (kind_of asked asks (rw held at here))
 
+pub returns-clause-complete : goal.returns-clause-complete
+returns-clause-complete g c asked text asks input admitted calm =
+    let rose = cut_rose g.D.Desk.file g.D.Desk.output g.D.Desk.faults c.args.desk.now _ _ _ _ c.prepare.ensures.write_faults c.in-Err-deliver.ensures.fault in
+    absurd (calm rose.0 rose.1)
+
 pub returns-clause-calm : goal.returns-clause-calm
 returns-clause-calm g c calm =
     let rose = cut_rose g.D.Desk.file g.D.Desk.output g.D.Desk.faults c.args.desk.now _ _ _ _ c.prepare.ensures.write_faults c.in-Err-deliver.ensures.fault in
@@ -146,6 +162,10 @@ returns-in-Err-clause-usage g c none = inr (inr (end_without_cause _ _ (no_cause
 
 pub returns-in-Err-clause-read_whole : goal.returns-in-Err-clause-read_whole
 returns-in-Err-clause-read_whole g c reads read = end_is_not_of_read _ _ c.in-Err.ensures.refusal read
+
+pub returns-in-Err-clause-complete : goal.returns-in-Err-clause-complete
+returns-in-Err-clause-complete g c asked text asks input admitted calm =
+    inr (end_without_cause _ _ (λ cause. let rose = cause_rose cause in calm rose.0 rose.1) c.in-Err.ensures.refusal)
 
 pub returns-in-Err-clause-calm : goal.returns-in-Err-clause-calm
 returns-in-Err-clause-calm g c calm =
