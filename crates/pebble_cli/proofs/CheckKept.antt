@@ -82,21 +82,21 @@ one_refusal g bytes a b j k (broken t why file breaks a_is) (broken u other held
     (a_is ∙ ap number_of_reason same.0 ∙ sym b_is, same.1)
 
 -- the game and the bytes of two answers to one text and one file are the same
-pub moved : (P : PebbleGame → List ℕ → Type 0) (slots : ℕ) (text : List ℕ) (k j : KernelParts) (g h : GraphParts) (bytes held : List ℕ) → IsAccepted text k g → IsAccepted text j h → bytes ≡ held
-    → P (played_on g slots) bytes → P (played_on h slots) held
-moved P slots text k j g h bytes held a b same holds =
-    subst (λ x. P (played_on h slots) x) same (subst (λ x. P (played_on x slots) bytes) (accepted_once text k j g h a b).1 holds)
+pub moved : (P : PebbleGame → List ℕ → Type 0) (asked : Checking) (text : List ℕ) (k j : KernelParts) (g h : GraphParts) (bytes held : List ℕ) → IsAccepted text k g → IsAccepted text j h → bytes ≡ held
+    → P (played_on g asked.slots asked.weights) bytes → P (played_on h asked.slots asked.weights) held
+moved P asked text k j g h bytes held a b same holds =
+    subst (λ x. P (played_on h asked.slots asked.weights) x) same (subst (λ x. P (played_on x asked.slots asked.weights) bytes) (accepted_once text k j g h a b).1 holds)
 
 once : (asked : Checking) (text : List ℕ) (file : Option (Option (List ℕ))) (held : Option (List ℕ)) (s t : Status) (p q : List ℕ) (a b : Option (List ℕ))
     → file ≡ Some held → Checks asked text file s p a → Checks asked text file t q b → s ≡ t
 once asked text file held s t p q a b told (inl h) (inl k) = h.ends ∙ sym k.ends
 once asked text file held s t p q a b told (inl h) (inr k) =
-    certified_or_not (played_on k.graph asked.slots) k.bytes h.certificate k.reason k.row
-    (moved (λ g bytes. IsCertificate g bytes h.certificate) asked.slots text h.kernel k.kernel h.graph k.graph h.bytes k.bytes h.accepted k.accepted (told_bytes file held h.bytes k.bytes told h.held k.held) h.certifies)
+    certified_or_not (played_on k.graph asked.slots asked.weights) k.bytes h.certificate k.reason k.row
+    (moved (λ g bytes. IsCertificate g bytes h.certificate) asked text h.kernel k.kernel h.graph k.graph h.bytes k.bytes h.accepted k.accepted (told_bytes file held h.bytes k.bytes told h.held k.held) h.certifies)
     k.refused
 once asked text file held s t p q a b told (inr h) (inl k) =
-    certified_or_not (played_on h.graph asked.slots) h.bytes k.certificate h.reason h.row
-    (moved (λ g bytes. IsCertificate g bytes k.certificate) asked.slots text k.kernel h.kernel k.graph h.graph k.bytes h.bytes k.accepted h.accepted (told_bytes file held k.bytes h.bytes told k.held h.held) k.certifies)
+    certified_or_not (played_on h.graph asked.slots asked.weights) h.bytes k.certificate h.reason h.row
+    (moved (λ g bytes. IsCertificate g bytes k.certificate) asked text k.kernel h.kernel k.graph h.graph k.bytes h.bytes k.accepted h.accepted (told_bytes file held k.bytes h.bytes told k.held h.held) k.certifies)
     h.refused
 once asked text file held s t p q a b told (inr h) (inr k) = h.ends ∙ sym k.ends
 
@@ -123,7 +123,7 @@ certified_or_refused g dag bytes = elim (cases_lt 20000000 (length bytes)) [
 
 -- the bound of a table file of the game is at most the cost of each complete pebbling
 pub is_certified : (asked : Checking) (text : List ℕ) (file : Option (Option (List ℕ))) (kernel : KernelParts) (graph : GraphParts) (bytes : List ℕ) (t : TableParts)
-    (status : Status) (printed : List ℕ) (table : Option (List ℕ)) → status ≡ Done → printed ≡ accepted_text t.bound → table ≡ None → IsCertificate (played_on graph asked.slots) bytes t
+    (status : Status) (printed : List ℕ) (table : Option (List ℕ)) → status ≡ Done → printed ≡ accepted_text t.bound → table ≡ None → IsCertificate (played_on graph asked.slots asked.weights) bytes t
     → degree (dag_of graph) < asked.slots → IsAccepted text kernel graph → TellsFile file bytes → IsCertified asked text file status printed table
 is_certified asked text file kernel graph bytes t status printed table is line none certifies room accepted held = record {
   kernel = kernel;
@@ -134,14 +134,14 @@ is_certified asked text file kernel graph bytes t status printed table is line n
   held = held;
   certificate = t;
   certifies = certifies;
-  lowest = bound_is_below_pebblings floor_is_below_plays plays_from_start_cost_no_more (played_on graph asked.slots) (IsDag-dag_of graph (accepted_graph accepted)) t.rows t.bound certifies.of_game.valid;
+  lowest = bound_is_below_pebblings floor_is_below_plays plays_from_start_cost_no_more (played_on graph asked.slots asked.weights) (IsDag-dag_of graph (accepted_graph accepted)) t.rows t.bound certifies.of_game.valid;
   ends = is;
   line = line;
   none = none;
 }
 
 answer_by : (asked : Checking) (input bytes : List ℕ) (file : Option (Option (List ℕ))) (kernel : KernelParts) (graph : GraphParts) → IsAccepted input kernel graph
-    → degree (dag_of graph) < asked.slots → TellsFile file bytes → Outcome (played_on graph asked.slots) bytes → HasLast (Check asked) input file
+    → degree (dag_of graph) < asked.slots → TellsFile file bytes → Outcome (played_on graph asked.slots asked.weights) bytes → HasLast (Check asked) input file
 answer_by asked input bytes file kernel graph accepted room held (inl h) = record {
   status = Done;
   printed = accepted_text h.0.bound;
@@ -173,7 +173,7 @@ some asked input file there (kernel_with_room text e h) =
     let same : text ≡ input = cc in
     let bytes = bytes_of file there in
     answer_by asked input bytes.0 file h.kernel h.graph (subst (λ t. IsAccepted t h.kernel h.graph) same h.accepted) (h.room asked.slots refl) bytes.1
-    (certified_or_refused (played_on h.graph asked.slots) (IsDag-dag_of h.graph (accepted_graph h.accepted)) bytes.0)
+    (certified_or_refused (played_on h.graph asked.slots asked.weights) (IsDag-dag_of h.graph (accepted_graph h.accepted)) bytes.0)
 some asked input file there (code_input code is h) = absurd (cc)
 
 pub check_kept : (asked : Checking) → AreKept (Check asked)

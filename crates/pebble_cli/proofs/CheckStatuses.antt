@@ -1,5 +1,6 @@
 -- The laws of the answers of `check`: where its statuses stand, and that what `plan` wrote is accepted.
 use Rattle.std.proofs.Common.{◌≡◌, ◌⊎◌, ℕ, ◌<◌, ◌≤◌, List, length, Option, Some, inl, inr, refl, ap, ◌∙◌, subst, arith}
+use Rattle.comp_graph.specs.declared.costs.Weights.{Weights}
 use Rattle.comp_graph.specs.Dags.{degree}
 use Rattle.comp_graph.specs.Graphs.{GraphParts, dag_of}
 use Rattle.kernel_ast.specs.KernelParts.{KernelParts}
@@ -43,12 +44,12 @@ done_where_certified asked input bytes status printed table kernel graph h accep
   where
     by_kind : Checks asked input (Some (Some bytes)) status printed table → (status ≡ Done) × (printed ≡ accepted_text t.bound)
     by_kind (inl k) =
-        let here = to_check.moved (λ g bytes. IsCertificate g bytes t) asked.slots input kernel k.kernel graph k.graph bytes k.bytes accepted k.accepted k.held is in
-        let same = to_check.one_certificate (played_on k.graph asked.slots) k.bytes k.certificate t k.certifies here in
+        let here = to_check.moved (λ g bytes. IsCertificate g bytes t) asked input kernel k.kernel graph k.graph bytes k.bytes accepted k.accepted k.held is in
+        let same = to_check.one_certificate (played_on k.graph asked.slots asked.weights) k.bytes k.certificate t k.certifies here in
         (k.ends, k.line ∙ ap (λ u. accepted_text u.bound) same)
     by_kind (inr k) =
-        let here = to_check.moved (λ g bytes. IsCertificate g bytes t) asked.slots input kernel k.kernel graph k.graph bytes k.bytes accepted k.accepted k.held is in
-        to_check.certified_or_not (played_on k.graph asked.slots) k.bytes t k.reason k.row here k.refused
+        let here = to_check.moved (λ g bytes. IsCertificate g bytes t) asked input kernel k.kernel graph k.graph bytes k.bytes accepted k.accepted k.held is in
+        to_check.certified_or_not (played_on k.graph asked.slots asked.weights) k.bytes t k.reason k.row here k.refused
 
 pub refused_where_not : RefusedWhereNot
 refused_where_not asked input bytes status printed table kernel graph h accepted room reason row is =
@@ -56,19 +57,19 @@ refused_where_not asked input bytes status printed table kernel graph h accepted
   where
     by_kind : Checks asked input (Some (Some bytes)) status printed table → (status ≡ Refused) × (printed ≡ refused_text reason row)
     by_kind (inl k) =
-        let here = to_check.moved (λ g bytes. IsRefused g bytes reason row) asked.slots input kernel k.kernel graph k.graph bytes k.bytes accepted k.accepted k.held is in
-        to_check.certified_or_not (played_on k.graph asked.slots) k.bytes k.certificate reason row k.certifies here
+        let here = to_check.moved (λ g bytes. IsRefused g bytes reason row) asked input kernel k.kernel graph k.graph bytes k.bytes accepted k.accepted k.held is in
+        to_check.certified_or_not (played_on k.graph asked.slots asked.weights) k.bytes k.certificate reason row k.certifies here
     by_kind (inr k) =
-        let here = to_check.moved (λ g bytes. IsRefused g bytes reason row) asked.slots input kernel k.kernel graph k.graph bytes k.bytes accepted k.accepted k.held is in
-        let same = to_check.one_refusal (played_on k.graph asked.slots) k.bytes k.reason reason k.row row k.refused here in
+        let here = to_check.moved (λ g bytes. IsRefused g bytes reason row) asked input kernel k.kernel graph k.graph bytes k.bytes accepted k.accepted k.held is in
+        let same = to_check.one_refusal (played_on k.graph asked.slots asked.weights) k.bytes k.reason reason k.row row k.refused here in
         (k.ends, k.line ∙ ap (λ r. refused_text r k.row) same.0 ∙ ap (refused_text reason) same.1)
 
 -- ---- what `plan` wrote
 
 -- the spelling of a table of the game is a table file of it, if its rows are few
-written_table : (graph : GraphParts) (slots : ℕ) (bytes : List ℕ) (t : TableParts) → IsSpelling bytes t → IsTableOf (played_on graph slots) t → length t.rows ≤ 150000
-    → IsCertificate (played_on graph slots) bytes t
-written_table graph slots bytes t spelled of_game few = record {
+written_table : (graph : GraphParts) (slots : ℕ) (weights : Weights) (bytes : List ℕ) (t : TableParts) → IsSpelling bytes t → IsTableOf (played_on graph slots weights) t → length t.rows ≤ 150000
+    → IsCertificate (played_on graph slots weights) bytes t
+written_table graph slots weights bytes t spelled of_game few = record {
   file = record { short = let long = length_table bytes t spelled in omega arith; spelled = spelled };
   of_game = of_game;
 }
@@ -78,6 +79,6 @@ plans_are_accepted asked input verdict report bytes limits plan status printed t
     let t = plan.table_parts in
     let same : plan.bytes ≡ bytes = (let written = plan.written in cc) in
     let few : length t.rows ≤ 150000 = (let expanded = plan.answer.shown.expanded in let most = plan.answer.shown.few in let budget = limits.2 in omega (arith, expanded, most, budget)) in
-    let is = written_table plan.graph asked.slots bytes t (subst (λ x. IsSpelling x t) same plan.spelled) plan.answer.shown.tabled few in
-    let done = done_where_certified (record { slots = asked.slots }) input bytes status printed table plan.kernel plan.graph h plan.accepted plan.room t is in
+    let is = written_table plan.graph asked.slots asked.weights bytes t (subst (λ x. IsSpelling x t) same plan.spelled) plan.answer.shown.tabled few in
+    let done = done_where_certified (record { slots = asked.slots; weights = asked.weights }) input bytes status printed table plan.kernel plan.graph h plan.accepted plan.room t is in
     (done.0, done.1 ∙ ap accepted_text plan.answer.shown.bound)

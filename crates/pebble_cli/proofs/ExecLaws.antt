@@ -1,5 +1,6 @@
 -- The laws of the answers of `exec`: where its statuses stand, and that what `plan` prints runs as the source does.
-use Rattle.std.proofs.Common.{◌≡◌, ◌⊎◌, ℕ, ℤ, List, ◌++◌, length, Option, Some, Ok, Err, inl, inr, refl, sym, ap, ◌∙◌, subst}
+use Rattle.std.proofs.Common.{◌≡◌, ◌⊎◌, ℕ, ℤ, ◌+◌, ◌*◌, List, ◌++◌, length, Option, Some, Ok, Err, inl, inr, refl, sym, ap, ◌∙◌, subst, arith}
+use Rattle.comp_graph.specs.Games.{unit_weights}
 use Rattle.comp_graph.specs.Graphs.{GraphParts}
 use Rattle.kernel_ast.specs.declared.tree.DeclKind.TheVariants as kinds
 use Rattle.kernel_ast.specs.KernelParts.{KernelParts}
@@ -7,7 +8,7 @@ use Rattle.kernel_ast.specs.Labels.{labels_of}
 use Rattle.kernel_ast.specs.Meaning.{outputs}
 use Rattle.plan_report.specs.OutputsText.{outputs_text}
 use Rattle.scratch_machine.specs.Codes.{CodeParts}
-use Rattle.scratch_machine.specs.Machines.{Ending, Fault, run}
+use Rattle.scratch_machine.specs.Machines.{Ending, Fault, run, transfers}
 use Rattle.values_text.specs.Values.{Spells}
 use Rattle.values_text.proofs.Parts.{one_list}
 use Rattle.pebble_cli.specs.declared.commands.Command.TheVariants.{Run, Exec}
@@ -18,7 +19,7 @@ use Rattle.pebble_cli.specs.Answers.{Answers}
 use Rattle.pebble_cli.specs.CodeInputs.{IsCodeInput, IsNoCode}
 use Rattle.pebble_cli.specs.ExecAnswers.{Executes, IsRunToEnd, IsEmptyRead, IsWrongInputs, ran_text, transfers_text}
 use Rattle.pebble_cli.specs.ExecLaws.{ExecStatuses, DoneWhereRun, FaultWhereEmpty, ValuesWhereWrong, PlansReadBack, PlansRunAsSources}
-use Rattle.pebble_cli.specs.PlanAnswers.{RunsRight}
+use Rattle.pebble_cli.specs.PlanAnswers.{RunsRight, run_weight}
 use Rattle.pebble_cli.specs.RunAnswers.{Runs, IsValuesFile}
 use Rattle.pebble_cli.specs.ValuesFiles.{HoldsValues}
 use Rattle.pebble_cli.proofs.Accepting.{accepted_once}
@@ -114,16 +115,31 @@ plans_run_as_sources asked text status printed table limits h short kernel graph
     let right = h.answer.right values here.counted in
     let reads = plans_read_back asked text status printed table limits h short in
     elim (where_values printed bytes done more other h.plan.code values exec_answer reads (subst (λ n. HoldsValues n bytes values) count here)) [
-      | inl k ↦ (source.0, k.2, k.3 ∙ text_is right k.0 k.1 ∙ ap (λ l. l ++ transfers_text h.plan.numbers.cost) (sym source.1))
+      | inl k ↦ (
+        source.0,
+        k.2,
+        k.0,
+        k.1,
+        k.3 ∙ text_is right k.0 k.1 ∙ ap (λ l. l ++ transfers_text (transfers k.0)) (sym source.1),
+        weighs right k.0 k.1,
+        λ unit. unit_weighs k.0 (sym (ap (λ w. run_weight w k.0) unit) ∙ weighs right k.0 k.1),
+      )
       | inr k ↦ absurd (let both : Ok right.ending ≡ Err k.0 = sym right.runs ∙ k.1 in cc)
     ]
   where
-    text_is : (right : RunsRight h.kernel h.plan.code h.plan.numbers.cost values) (ending : Ending) → run h.plan.code values ≡ Ok ending
-        → ran_text h.plan.code ending ≡ outputs_text (labels_of kinds.Output h.kernel.decls) (outputs h.kernel values) ++ transfers_text h.plan.numbers.cost
+    ending_is : (right : RunsRight h.kernel asked.weights h.plan.code h.plan.numbers.cost values) (ending : Ending) → run h.plan.code values ≡ Ok ending → ending ≡ right.ending
+    ending_is right ending runs = let both : Ok right.ending ≡ Ok ending = sym right.runs ∙ runs in cc
+
+    text_is : (right : RunsRight h.kernel asked.weights h.plan.code h.plan.numbers.cost values) (ending : Ending) → run h.plan.code values ≡ Ok ending
+        → ran_text h.plan.code ending ≡ outputs_text (labels_of kinds.Output h.kernel.decls) (outputs h.kernel values) ++ transfers_text (transfers ending)
     text_is right ending runs =
-        let both : Ok right.ending ≡ Ok ending = sym right.runs ∙ runs in
-        let one : ending ≡ right.ending = cc in
         let labels = h.answer.code_outputs in
-        let found = right.same in
-        let count = right.counted in
-        ap (ran_text h.plan.code) one ∙ (λ i. outputs_text (labels i) (found i) ++ transfers_text (count i))
+        let found : ending.outputs ≡ outputs h.kernel values = ap (λ (e : Ending). e.outputs) (ending_is right ending runs) ∙ right.same in
+        λ i. outputs_text (labels i) (found i) ++ transfers_text (transfers ending)
+
+    weighs : (right : RunsRight h.kernel asked.weights h.plan.code h.plan.numbers.cost values) (ending : Ending) → run h.plan.code values ≡ Ok ending
+        → run_weight asked.weights ending ≡ h.plan.numbers.cost
+    weighs right ending runs = ap (run_weight asked.weights) (ending_is right ending runs) ∙ right.counted
+
+    unit_weighs : (ending : Ending) → 1 * ending.loads + 1 * ending.stores ≡ h.plan.numbers.cost → transfers ending ≡ h.plan.numbers.cost
+    unit_weighs ending weight = omega (arith, weight)

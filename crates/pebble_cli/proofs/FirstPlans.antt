@@ -1,6 +1,7 @@
 -- The first plan of each game, the labels of a code, and too few slots.
 use Rattle.std.proofs.Common.{◌≡◌, ℕ, ◌+◌, ◌≤◌, ◌<◌, List, [], ◌∷◌, map, Option, None, inr, refl, ap, ◌∙◌, arith}
 use Rattle.comp_graph.specs.declared.node.Output.{Output}
+use Rattle.comp_graph.specs.declared.costs.Weights.{Weights}
 use Rattle.comp_graph.specs.Dags.{degree}
 use Rattle.comp_graph.specs.Graphs.{GraphParts, IsGraph, dag_of}
 use Rattle.comp_graph.specs.Games.{GameParts, IsGame, game_of}
@@ -46,8 +47,8 @@ first_plan_valid g game = record {
 
 -- with too few slots there is no complete pebbling
 too_few_slots : (graph : GraphParts) (slots : ℕ) → IsGraph graph → 0 < slots → slots ≤ degree (dag_of graph)
-    → (moves : List Move) → IsComplete (played_on graph slots) (start (played_on graph slots)) moves → ⊥
-too_few_slots graph slots valid some small = (possible_above_degree (played_on graph slots) (IsDag-dag_of graph valid) some).0 small
+    → (weights : Weights) (moves : List Move) → IsComplete (played_on graph slots weights) (start (played_on graph slots weights)) moves → ⊥
+too_few_slots graph slots valid some small weights = (possible_above_degree (played_on graph slots weights) (IsDag-dag_of graph valid) some).0 small
 
 -- a kernel with too few slots
 pub is_too_small : (slots needs : ℕ) (text : List ℕ) (kernel : KernelParts) (graph : GraphParts) (status : Status) (printed : List ℕ) (table : Option (List ℕ))

@@ -74,7 +74,7 @@ found_plan_valid asked graph game = record {
 
 -- its code gives the source's outputs
 runs_right : (asked : Planning) (graph : GraphParts) (text : List ℕ) (kernel : KernelParts) → IsGame (game_asked asked graph) → IsAccepted text kernel graph
-    → (values : List ℤ) → length values ≡ length graph.names → RunsRight kernel (plan_code (plan_asked asked graph)) (plan_asked asked graph).total values
+    → (values : List ℤ) → length values ≡ length graph.names → RunsRight kernel asked.weights (plan_code (plan_asked asked graph)) (plan_asked asked graph).total values
 runs_right asked graph text kernel game accepted values count =
     let right = plan_code_is_right (plan_asked asked graph) game (found_plan_valid asked graph game) in
     let ran = right.runs values count in
@@ -87,7 +87,7 @@ runs_right asked graph text kernel game accepted values count =
       };
       runs = ran.runs;
       same = sym (outputs-graph_of kernel graph values ran.value (kernels_are_well_formed text kernel accepted.reads) accepted.evaluated count ran.values);
-      counted = omega (arith, weighs);
+      counted = weighs;
     }
 
 -- ---- the answer

@@ -112,7 +112,7 @@ some asked input file limits (kernel_with_room text e h) =
       valid = accepted_graph h.accepted;
       most = limits.1;
       room = h.room asked.slots refl;
-      weights = record { load_some = omega arith; load_most = omega arith; store_some = omega arith; store_most = omega arith };
+      weights = limits.3;
     } in
     let last = answered asked text h.kernel h.graph game limits h.accepted in
     record {

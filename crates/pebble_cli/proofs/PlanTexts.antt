@@ -204,7 +204,7 @@ plan_facts_small asked text status printed table limits h =
       valid = h.valid;
       most = limits.1;
       room = h.room;
-      weights = record { load_some = omega arith; load_most = omega arith; store_some = omega arith; store_most = omega arith };
+      weights = limits.3;
     } in
     let vertices = h.valid.small in
     let named = h.valid.named in
@@ -222,8 +222,8 @@ plan_facts_small asked text status printed table limits h =
       inputs = omega (arith, vertices, named);
       degree = omega (arith, room, most);
       slots = omega (arith, most);
-      load = omega arith;
-      store = omega arith;
+      load = let load = limits.3.load_most in omega (arith, load);
+      store = let store = limits.3.store_most in omega (arith, store);
       first = omega (arith, few, first);
       cost = omega (arith, few, first, no_more);
       bound = omega (arith, few, first, no_more, low, costs);

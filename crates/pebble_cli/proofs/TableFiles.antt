@@ -3,7 +3,7 @@ use Rattle.std.proofs.Common.{◌≡◌, ◌<◌, ℕ, List, length, Result, Ok,
 use Rattle.std.specs.Prelude.{None, Option, Vec}
 use Rattle.std.specs.declared.alloc.Global.{Global}
 use Rattle.comp_graph.specs.Dags.{degree}
-use Rattle.comp_graph.specs.Games.{GameParts, game_of, unit_weights}
+use Rattle.comp_graph.specs.Games.{GameParts, game_of}
 use Rattle.comp_graph.specs.Graphs.{GraphParts, dag_of}
 use Rattle.desk_io.specs.Known.{TellsFile, file_items}
 use Rattle.kernel_ast.specs.KernelParts.{KernelParts}
@@ -20,9 +20,9 @@ use Rattle.pebble_cli.specs.PlayedGames.{played_on}
 use Rattle.pebble_cli.proofs.CheckKept.{is_certified}
 use Rattle.pebble_cli.proofs.ToldBytes.{told_more_file}
 
--- the game of a command is that of its graph and slots
-pub is_played : (game : GameParts) (asked : Checking) → game.slots ≡ asked.slots → game.weights ≡ unit_weights → game_of game ≡ played_on game.graph asked.slots
-is_played game asked slots unit = λ i. game_of (record { graph = game.graph; slots = slots i; weights = unit i })
+-- the game of a command is that of its graph, slots and weights
+pub is_played : (game : GameParts) (asked : Checking) → game.slots ≡ asked.slots → game.weights ≡ asked.weights → game_of game ≡ played_on game.graph asked.slots asked.weights
+is_played game asked slots weights = λ i. game_of (record { graph = game.graph; slots = slots i; weights = weights i })
 
 -- what the answer to a file says
 abbrev pub AnswersFile : Checking → GraphParts → List ℕ → Answer → Type 0
@@ -32,7 +32,7 @@ AnswersFile asked graph bytes answer = (text : List ℕ) (kernel : KernelParts) 
 -- the answer where the file is a table file of the game
 pub certified : {E : Type 0} (r : Result Answer E) (asked : Checking) (graph : GraphParts) (bytes : List ℕ) (t : TableParts) (bound : ℕ)
     → IfOk r (λ a. a.status ≡ Done) → IfOk r (λ a. a.text.items ≡ accepted_text bound) → IfOk r (λ a. file_items a.table ≡ None) → bound ≡ t.bound
-    → IsCertificate (played_on graph asked.slots) bytes t → degree (dag_of graph) < asked.slots → IfOk r (AnswersFile asked graph bytes)
+    → IsCertificate (played_on graph asked.slots asked.weights) bytes t → degree (dag_of graph) < asked.slots → IfOk r (AnswersFile asked graph bytes)
 certified (Ok a) asked graph bytes t bound is line none same certifies room = λ text kernel file accepted held.
     inl (is_certified asked text file kernel graph bytes t a.status a.text.items (file_items a.table) is (line ∙ ap accepted_text same) none certifies room accepted held)
 certified (Err e) asked graph bytes t bound is line none same certifies room = tt
@@ -40,7 +40,7 @@ certified (Err e) asked graph bytes t bound is line none same certifies room = t
 -- the answer where the file is refused
 pub not_certified : {E : Type 0} (r : Result Answer E) (asked : Checking) (graph : GraphParts) (bytes : List ℕ) (reason row : ℕ)
     → IfOk r (λ a. a.status ≡ Refused) → IfOk r (λ a. a.text.items ≡ refused_text reason row) → IfOk r (λ a. file_items a.table ≡ None)
-    → IsRefused (played_on graph asked.slots) bytes reason row → degree (dag_of graph) < asked.slots → IfOk r (AnswersFile asked graph bytes)
+    → IsRefused (played_on graph asked.slots asked.weights) bytes reason row → degree (dag_of graph) < asked.slots → IfOk r (AnswersFile asked graph bytes)
 not_certified (Ok a) asked graph bytes reason row is line none refused room = λ text kernel file accepted held. inr (record {
   kernel = kernel;
   graph = graph;

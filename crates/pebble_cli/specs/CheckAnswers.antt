@@ -59,9 +59,9 @@ pub record IsCertified (asked : Checking) (text : List ℕ) (file : Option (Opti
   pub bytes : List ℕ
   pub held : TellsFile file bytes
   pub certificate : TableParts
-  pub certifies : IsCertificate (played_on graph asked.slots) bytes certificate
-  pub lowest : (moves : List Move) → IsComplete (played_on graph asked.slots) (start (played_on graph asked.slots)) moves
-      → certificate.bound ≤ moves_cost (played_on graph asked.slots) moves
+  pub certifies : IsCertificate (played_on graph asked.slots asked.weights) bytes certificate
+  pub lowest : (moves : List Move) → IsComplete (played_on graph asked.slots asked.weights) (start (played_on graph asked.slots asked.weights)) moves
+      → certificate.bound ≤ moves_cost (played_on graph asked.slots asked.weights) moves
   pub ends : status ≡ Done
   pub line : printed ≡ accepted_text certificate.bound
   pub none : table ≡ None
@@ -77,7 +77,7 @@ pub record IsRefusedFile (asked : Checking) (text : List ℕ) (file : Option (Op
   pub held : TellsFile file bytes
   pub reason : ℕ
   pub row : ℕ
-  pub refused : IsRefused (played_on graph asked.slots) bytes reason row
+  pub refused : IsRefused (played_on graph asked.slots asked.weights) bytes reason row
   pub ends : status ≡ Refused
   pub line : printed ≡ refused_text reason row
   pub none : table ≡ None

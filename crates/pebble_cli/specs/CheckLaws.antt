@@ -28,7 +28,7 @@ CheckStatuses = (asked : Checking) (input : List ℕ) (file : Option (Option (Li
 abbrev pub OfChecks : (PebbleGame → List ℕ → Status → List ℕ → Type 0) → Type 0
 OfChecks P = (asked : Checking) (input bytes : List ℕ) (status : Status) (printed : List ℕ) (table : Option (List ℕ)) (kernel : KernelParts) (graph : GraphParts)
     → Answers (Some (Check asked)) input (Some (Some bytes)) status printed table → IsAccepted input kernel graph
-    → degree (dag_of graph) < asked.slots → P (played_on graph asked.slots) bytes status printed
+    → degree (dag_of graph) < asked.slots → P (played_on graph asked.slots asked.weights) bytes status printed
 
 -- It is Done with the bound where the file is a table file of the game, and Refused with the reason and the row where it is refused.
 abbrev pub DoneWhereCertified : Type 0
@@ -42,9 +42,9 @@ abbrev pub CertifiedOrRefused : Type 0
 CertifiedOrRefused = (g : PebbleGame) → IsDag g.dag → (bytes : List ℕ)
     → ((t : TableParts) × IsCertificate g bytes t) ⊎ ((reason : ℕ) × (row : ℕ) × IsRefused g bytes reason row)
 
--- A file that `plan` wrote is accepted with the same kernel and slots, and with the same bound, and by no other answer.
+-- A file that `plan` wrote is accepted with the same kernel, slots and weights, and with the same bound, and by no other answer.
 abbrev pub PlansAreAccepted : Type 0
 PlansAreAccepted = (asked : Planning) (input : List ℕ) (verdict : Status) (report bytes : List ℕ) → IsInLimits (Plan asked)
     → (plan : IsPlanned asked input verdict report (Some bytes)) → (status : Status) (printed : List ℕ) (table : Option (List ℕ))
-    → Answers (Some (Check (record { slots = asked.slots }))) input (Some (Some bytes)) status printed table
+    → Answers (Some (Check (record { slots = asked.slots; weights = asked.weights }))) input (Some (Some bytes)) status printed table
     → (status ≡ Done) × (printed ≡ accepted_text plan.plan.numbers.bound)

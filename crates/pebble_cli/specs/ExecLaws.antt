@@ -1,9 +1,10 @@
 -- Where each status of `exec` stands, over the definitions alone, and that what `plan` prints runs as the source does.
 use Rattle.std.specs.Prelude.{◌≡◌, ◌⊎◌, ◌≤◌, ℕ, ℤ, List, ◌++◌, length, Option, Some, Ok, Err}
+use Rattle.comp_graph.specs.Games.{unit_weights}
 use Rattle.comp_graph.specs.Graphs.{GraphParts}
 use Rattle.kernel_ast.specs.KernelParts.{KernelParts}
 use Rattle.scratch_machine.specs.Codes.{CodeParts}
-use Rattle.scratch_machine.specs.Machines.{Ending, Fault, run}
+use Rattle.scratch_machine.specs.Machines.{Ending, Fault, run, transfers}
 use Rattle.pebble_cli.specs.declared.commands.Command.TheVariants.{Plan, Run, Exec}
 use Rattle.pebble_cli.specs.declared.commands.Planning.{Planning}
 use Rattle.pebble_cli.specs.declared.status.Status.{Status}
@@ -12,7 +13,7 @@ use Rattle.pebble_cli.specs.Accepted.{IsAccepted}
 use Rattle.pebble_cli.specs.Answers.{Answers}
 use Rattle.pebble_cli.specs.CodeInputs.{IsCodeInput, IsNoCode}
 use Rattle.pebble_cli.specs.ExecAnswers.{IsRunToEnd, IsEmptyRead, IsWrongInputs, transfers_text}
-use Rattle.pebble_cli.specs.PlanAnswers.{IsPlanned}
+use Rattle.pebble_cli.specs.PlanAnswers.{IsPlanned, run_weight}
 use Rattle.pebble_cli.specs.RunAnswers.{IsValuesFile}
 use Rattle.pebble_cli.specs.ValuesFiles.{HoldsValues, HoldsNone}
 use Rattle.pebble_cli.specs.Words.{IsInLimits}
@@ -48,9 +49,12 @@ PlansReadBack = (asked : Planning) (text : List ℕ) (status : Status) (printed 
     → (h : IsPlanned asked text status printed table) → length printed ≤ 20000000 → IsCodeInput printed h.plan.code
 
 -- On each file that holds values of the kernel, `run` on the kernel and `exec` on what `plan` printed of it are both Done, whatever answers
--- them, and `exec` prints the lines that `run` prints, and then the printed cost of the plan as the number of transfers.
+-- them, and `exec` prints the lines that `run` prints, and then the number of loads and stores of the run, which weigh the printed cost of
+-- the plan. Where a load and a store cost 1, that number is the printed cost.
 abbrev pub PlansRunAsSources : Type 0
 PlansRunAsSources = (asked : Planning) (text : List ℕ) (status : Status) (printed : List ℕ) (table : Option (List ℕ)) → IsInLimits (Plan asked)
     → (h : IsPlanned asked text status printed table) → length printed ≤ 20000000 → (kernel : KernelParts) (graph : GraphParts) (bytes : List ℕ) (values : List ℤ) → IsAccepted text kernel graph → IsValuesFile kernel bytes values
     → (ran executed : Status) (lines more : List ℕ) (none other : Option (List ℕ)) → Answers (Some Run) text (Some (Some bytes)) ran lines none
-    → Answers (Some Exec) printed (Some (Some bytes)) executed more other → (ran ≡ Done) × (executed ≡ Done) × (more ≡ lines ++ transfers_text h.plan.numbers.cost)
+    → Answers (Some Exec) printed (Some (Some bytes)) executed more other → (ran ≡ Done) × (executed ≡ Done) × ((ending : Ending)
+    × (run h.plan.code values ≡ Ok ending) × (more ≡ lines ++ transfers_text (transfers ending)) × (run_weight asked.weights ending ≡ h.plan.numbers.cost)
+    × (asked.weights ≡ unit_weights → transfers ending ≡ h.plan.numbers.cost))

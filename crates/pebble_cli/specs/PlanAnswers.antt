@@ -1,7 +1,8 @@
 -- What `plan` answers to an accepted kernel with enough slots: the numbers that it prints, the verdict and the code, and when they answer
--- a kernel, a number of slots and a budget of positions. This is the promise of the program for a kernel that it accepts. What is shown of
--- the numbers and of the table, without the code, is a record of its own, which `trial` promises too.
-use Rattle.std.specs.Prelude.{◌≡◌, ℕ, ℤ, ◌≤◌, ◌<◌, ◌↔◌, Bool, true, false, List, ◌++◌, length, map, Option, Some, Ok}
+-- a kernel, a number of slots, a budget of positions and the weights of a load and a store. This is the promise of the program for a kernel
+-- that it accepts. What is shown of the numbers and of the table, without the code, is a record of its own, which `trial` promises too.
+use Rattle.std.specs.Prelude.{◌≡◌, ℕ, ℤ, ◌+◌, ◌*◌, ◌≤◌, ◌<◌, ◌↔◌, Bool, true, false, List, ◌++◌, length, map, Option, Some, Ok}
+use Rattle.comp_graph.specs.declared.costs.Weights.{Weights}
 use Rattle.comp_graph.specs.Dags.{degree}
 use Rattle.comp_graph.specs.Graphs.{GraphParts, IsGraph, dag_of}
 use Rattle.comp_graph.specs.Games.{GameParts, game_of}
@@ -14,7 +15,7 @@ use Rattle.search_laws.specs.Search.{Search, searched, rows_of}
 use Rattle.slot_alloc.specs.PlanCode.{plan_code}
 use Rattle.scratch_machine.specs.declared.code.OutWord.{OutWord}
 use Rattle.scratch_machine.specs.Codes.{CodeParts, IsCode}
-use Rattle.scratch_machine.specs.Machines.{Ending, run, transfers}
+use Rattle.scratch_machine.specs.Machines.{Ending, run}
 use Rattle.scratch_machine.specs.CodePlays.{CodePlays}
 use Rattle.kernel_ast.specs.declared.tree.DeclKind.TheVariants.{Input, Output}
 use Rattle.kernel_ast.specs.KernelParts.{KernelParts}
@@ -34,8 +35,8 @@ use Rattle.pebble_cli.specs.declared.status.Status.TheVariants.{Optimal, Open}
 use Rattle.pebble_cli.specs.Accepted.{IsAccepted}
 use Rattle.pebble_cli.specs.PlayedGames.{game_asked, played_for}
 
--- the printed numbers: the first plan's cost, the cost of the plan that was found and the lower bound, all in transfers, and the number of
--- expanded positions; and whether the verdict is Optimal
+-- the printed numbers: the first plan's cost, the cost of the plan that was found and the lower bound, all by the weights of loads and
+-- stores, and the number of expanded positions; and whether the verdict is Optimal
 pub record PlanNumbers : Type 0 where
   pub first : ℕ
   pub cost : ℕ
@@ -68,8 +69,8 @@ plan_asked asked graph = record {
 abbrev pub rows_asked : Planning → GraphParts → List Row
 rows_asked asked graph = rows_of (search_asked asked graph).entries
 
--- The numbers and the table are those of the plan that the search finds, on a graph with the slots and the budget of positions that are asked
--- for.
+-- The numbers and the table are those of the plan that the search finds, on a graph with the slots, the budget of positions and
+-- the weights that are asked for.
 pub record IsShown (graph : GraphParts) (asked : Planning) (numbers : PlanNumbers) (table : TableParts) : Type 0 where
   -- the printed cost of the first plan is its cost, and the answered plan costs no more
   pub first : numbers.first ≡ (first_plan_of (game_asked asked graph)).total
@@ -92,13 +93,17 @@ pub record IsShown (graph : GraphParts) (asked : Planning) (numbers : PlanNumber
   -- no complete pebbling costs less than the bound, whatever it computes again, drops or moves in vain
   pub lowest : (moves : List Move) → IsComplete (played_for asked graph) (start (played_for asked graph)) moves → numbers.bound ≤ moves_cost (played_for asked graph) moves
 
--- On these values of the inputs the run of the code meets no empty slot or word, gives the outputs of the source, and makes this many
--- loads and stores.
-pub record RunsRight (kernel : KernelParts) (code : CodeParts) (count : ℕ) (values : List ℤ) : Type 0 where
+-- what the loads and stores of a run weigh together
+abbrev pub run_weight : Weights → Ending → ℕ
+run_weight weights ending = weights.load * ending.loads + weights.store * ending.stores
+
+-- On these values of the inputs the run of the code meets no empty slot or word, gives the outputs of the source, and makes loads and
+-- stores that weigh exactly this much.
+pub record RunsRight (kernel : KernelParts) (weights : Weights) (code : CodeParts) (weight : ℕ) (values : List ℤ) : Type 0 where
   pub ending : Ending
   pub runs : run code values ≡ Ok ending
   pub same : ending.outputs ≡ source_outputs kernel values
-  pub counted : transfers ending ≡ count
+  pub counted : run_weight weights ending ≡ weight
 
 -- there is a complete pebbling of this cost that the code plays, by the rules of the game
 pub record PlaysPebbling (game : GameParts) (code : CodeParts) (count : ℕ) : Type 0 where
@@ -107,7 +112,8 @@ pub record PlaysPebbling (game : GameParts) (code : CodeParts) (count : ℕ) : T
   pub costs : moves_cost (game_of game) moves ≡ count
   pub plays : CodePlays game.graph code moves
 
--- The plan and its table answer a kernel with this graph, with the slots and the budget of positions that are asked for.
+-- The plan and its table answer a kernel with this graph, with the slots, the budget of positions and the weights that are
+-- asked for.
 pub record IsAnswer (kernel : KernelParts) (graph : GraphParts) (asked : Planning) (plan : PrintedPlan) (table : TableParts) : Type 0 where
   -- the numbers and the table are those of the plan that the search finds, and the code is that of its steps
   pub shown : IsShown graph asked plan.numbers table
@@ -118,9 +124,9 @@ pub record IsAnswer (kernel : KernelParts) (graph : GraphParts) (asked : Plannin
   pub code_bounds : IsCode plan.code
   pub code_inputs : plan.code.inputs ≡ labels_of Input kernel.decls
   pub code_outputs : map (λ (o : OutWord). o.label) plan.code.outputs ≡ labels_of Output kernel.decls
-  -- the code is right on every list of as many values as the kernel has input elements, those of 64 bits among them, with exactly as many
-  -- loads and stores as the cost
-  pub right : (values : List ℤ) → length values ≡ length (labels_of Input kernel.decls) → RunsRight kernel plan.code plan.numbers.cost values
+  -- the code is right on every list of as many values as the kernel has input elements, those of 64 bits among them, with loads and
+  -- stores that weigh exactly the cost
+  pub right : (values : List ℤ) → length values ≡ length (labels_of Input kernel.decls) → RunsRight kernel asked.weights plan.code plan.numbers.cost values
   -- the code plays a complete pebbling of its cost, so an operation never writes over the slot of an operand
   pub played : PlaysPebbling (game_asked asked graph) plan.code plan.numbers.cost
 

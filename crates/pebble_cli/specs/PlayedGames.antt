@@ -1,20 +1,21 @@
--- The game that each command plays on a graph: a load and a store cost 1 each (the rules of 1981).
+-- The game that each command plays on a graph: with its slots, and with the costs of a load and a store that are asked for.
 use Rattle.std.specs.Prelude.{ℕ}
+use Rattle.comp_graph.specs.declared.costs.Weights.{Weights}
 use Rattle.comp_graph.specs.Graphs.{GraphParts}
-use Rattle.comp_graph.specs.Games.{GameParts, PebbleGame, game_of, unit_weights}
+use Rattle.comp_graph.specs.Games.{GameParts, PebbleGame, game_of}
 use Rattle.pebble_cli.specs.declared.commands.Planning.{Planning}
 
--- a graph with this many slots
-abbrev pub game_parts : GraphParts → ℕ → GameParts
-game_parts graph slots = record { graph = graph; slots = slots; weights = unit_weights }
+-- a graph with this many slots and these weights
+abbrev pub game_parts : GraphParts → ℕ → Weights → GameParts
+game_parts graph slots weights = record { graph = graph; slots = slots; weights = weights }
 
--- the game on a graph with this many slots
-abbrev pub played_on : GraphParts → ℕ → PebbleGame
-played_on graph slots = game_of (game_parts graph slots)
+-- the game on a graph with this many slots and these weights
+abbrev pub played_on : GraphParts → ℕ → Weights → PebbleGame
+played_on graph slots weights = game_of (game_parts graph slots weights)
 
 -- the game that a plan is asked for, on a graph
 abbrev pub game_asked : Planning → GraphParts → GameParts
-game_asked asked graph = game_parts graph asked.slots
+game_asked asked graph = game_parts graph asked.slots asked.weights
 
 -- that game by its rules
 abbrev pub played_for : Planning → GraphParts → PebbleGame

@@ -2,6 +2,7 @@
 -- project's convention). No table is written with them.
 use Rattle.std.specs.Prelude.{◌≡◌, ℕ, ◌+◌, ◌≤◌, List, ◌++◌, codes, Option, None}
 use Rattle.std.specs.Fmt.{decimal}
+use Rattle.comp_graph.specs.declared.costs.Weights.{Weights}
 use Rattle.comp_graph.specs.Dags.{degree}
 use Rattle.comp_graph.specs.Graphs.{GraphParts, dag_of}
 use Rattle.kernel_ast.specs.KernelParts.{KernelParts}
@@ -14,7 +15,7 @@ use Rattle.pebble_cli.specs.PlayedGames.{played_on}
 
 -- the line that says which words there are
 abbrev pub usage_text : List ℕ
-usage_text = codes "usage: pebble plan S TABLE [BUDGET], check S TABLE, run VALUES, exec VALUES, graph, trial N S TABLE\n"
+usage_text = codes "usage: pebble plan S TABLE [BUDGET [A B]], check S TABLE [A B], run VALUES, exec VALUES, graph, trial N S TABLE\n"
 
 -- the line for a fault of the kernel, with its code and its place in bytes from 0
 abbrev pub kernel_fault_text : ℕ → ℕ → List ℕ
@@ -39,13 +40,14 @@ pub record IsFaulty (text : List ℕ) (status : Status) (printed : List ℕ) (ta
   pub line : printed ≡ kernel_fault_text code at
   pub none : table ≡ None
 
--- there are no more slots than the degree of the text's graph, so there is no complete pebbling; the degree plus 1 is printed
+-- there are no more slots than the degree of the text's graph, so there is no complete pebbling, whatever a load and a
+-- store cost; the degree plus 1 is printed
 pub record IsTooSmall (slots : ℕ) (text : List ℕ) (status : Status) (printed : List ℕ) (table : Option (List ℕ)) : Type 0 where
   pub kernel : KernelParts
   pub graph : GraphParts
   pub accepted : IsAccepted text kernel graph
   pub small : slots ≤ degree (dag_of graph)
-  pub impossible : (moves : List Move) → IsComplete (played_on graph slots) (start (played_on graph slots)) moves → ⊥
+  pub impossible : (weights : Weights) (moves : List Move) → IsComplete (played_on graph slots weights) (start (played_on graph slots weights)) moves → ⊥
   pub ends : status ≡ TooSmall
   pub line : printed ≡ too_small_text (degree (dag_of graph) + 1)
   pub none : table ≡ None

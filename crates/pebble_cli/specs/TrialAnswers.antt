@@ -3,7 +3,7 @@
 use Rattle.std.specs.Prelude.{◌≡◌, ℕ, ◌+◌, ◌<◌, List, length, Option, Some}
 use Rattle.comp_graph.specs.Dags.{degree}
 use Rattle.comp_graph.specs.Graphs.{GraphParts, dag_of}
-use Rattle.comp_graph.specs.Games.{GameParts, game_of}
+use Rattle.comp_graph.specs.Games.{GameParts, game_of, unit_weights}
 use Rattle.pebble_rules.specs.declared.moves.Move.{Move}
 use Rattle.pebble_rules.specs.Rules.{start, IsComplete, cost as moves_cost}
 use Rattle.kernel_ast.specs.KernelParts.{KernelParts}
@@ -23,9 +23,9 @@ use Rattle.pebble_cli.specs.PlayedGames.{game_asked}
 abbrev pub trial_budget : ℕ
 trial_budget = 2000
 
--- what is asked for of the plan of a trial kernel
+-- what is asked for of the plan of a trial kernel: a load and a store cost 1
 abbrev pub planning_of : TrialPlanning → Planning
-planning_of asked = record { slots = asked.slots; budget = trial_budget }
+planning_of asked = record { slots = asked.slots; budget = trial_budget; weights = unit_weights }
 
 -- there is a complete pebbling of this cost
 pub record HasPebbling (game : GameParts) (count : ℕ) : Type 0 where

@@ -5,6 +5,8 @@ use Rattle.std.specs.declared.option.Option.{Option}
 use Rattle.std.specs.Char.{is_ascii_digit}
 use Rattle.std.specs.List.{list_all}
 use Rattle.std.specs.Str.{bytes_eq}
+use Rattle.comp_graph.specs.declared.costs.Weights.{Weights}
+use Rattle.comp_graph.specs.Games.{AreWeights, unit_weights}
 use Rattle.pebble_cli.specs.declared.commands.Command.{Command}
 use Rattle.pebble_cli.specs.declared.commands.Command.TheVariants.{Plan, Check, Run, Exec, Graph, Trial}
 
@@ -26,15 +28,24 @@ abbrev pub number : ℕ → ℕ → List ℕ → Option ℕ
 number low high word =
     if is_plain word && nat_le low (digits_after 0 word) && nat_le (digits_after 0 word) high then Some (digits_after 0 word) else None
 
--- the plan, where there are slots, a budget, and a table's name that is not empty
-abbrev pub plan_command : Option ℕ → List ℕ → Option ℕ → Option Command
-plan_command (Some slots) (c ∷ table) (Some budget) = Some (Plan (record { slots = slots; budget = budget }))
-plan_command _ _ _ = None
+-- the weights, where there are a load's and a store's
+abbrev pub weights_of : Option ℕ → Option ℕ → Option Weights
+weights_of (Some load) (Some store) = Some (record { load = load; store = store })
+weights_of _ _ = None
 
--- the check, where there are slots, and a table's name that is not empty
-abbrev pub check_command : Option ℕ → List ℕ → Option Command
-check_command (Some slots) (c ∷ table) = Some (Check (record { slots = slots }))
-check_command _ _ = None
+-- the weights that two words spell: of a load and then of a store, from 1 to 16
+abbrev pub weights_by : List ℕ → List ℕ → Option Weights
+weights_by load store = weights_of (number 1 16 load) (number 1 16 store)
+
+-- the plan, where there are slots, a budget, weights, and a table's name that is not empty
+abbrev pub plan_command : Option ℕ → List ℕ → Option ℕ → Option Weights → Option Command
+plan_command (Some slots) (c ∷ table) (Some budget) (Some weights) = Some (Plan (record { slots = slots; budget = budget; weights = weights }))
+plan_command _ _ _ _ = None
+
+-- the check, where there are slots, weights, and a table's name that is not empty
+abbrev pub check_command : Option ℕ → List ℕ → Option Weights → Option Command
+check_command (Some slots) (c ∷ table) (Some weights) = Some (Check (record { slots = slots; weights = weights }))
+check_command _ _ _ = None
 
 -- a command on values, where the name of their file is not empty
 abbrev pub values_command : Command → List ℕ → Option Command
@@ -50,20 +61,25 @@ abbrev pub trial_command : Option ℕ → Option ℕ → List ℕ → Option Com
 trial_command (Some statements) (Some slots) (c ∷ table) = Some (Trial (record { statements = statements; slots = slots }))
 trial_command _ _ _ = None
 
--- the command that the words spell: `plan S TABLE` with 1 to 64 slots, which may name a budget from 0 to 150,000 too, `check S TABLE` with 1
--- to 64 slots, `run VALUES`, `exec VALUES`, `graph`, or `trial N S TABLE` with 1 to 200 statements and 1 to 64 slots (this project's
--- convention); `file_word` gives the name of TABLE or VALUES
+-- the command that the words spell: `plan S TABLE` with 1 to 64 slots, which may name a budget from 0 to 150,000 too, and behind it two
+-- weights from 1 to 16, `check S TABLE` with 1 to 64 slots, which may name two weights, `run VALUES`, `exec VALUES`, `graph`, or `trial N S
+-- TABLE` with 1 to 200 statements and 1 to 64 slots (this project's convention); weights that are not named are 1 and 1; `file_word` gives
+-- the name of TABLE or VALUES
 abbrev pub command : List (List ℕ) → Option Command
 command (name ∷ []) = if bytes_eq name (codes "graph") then Some Graph else None
 command (name ∷ values ∷ []) =
     if bytes_eq name (codes "run") then values_command Run values
     else (if bytes_eq name (codes "exec") then values_command Exec values else None)
 command (name ∷ slots ∷ table ∷ []) =
-    if bytes_eq name (codes "plan") then plan_command (number 1 64 slots) table (Some default_budget)
-    else (if bytes_eq name (codes "check") then check_command (number 1 64 slots) table else None)
+    if bytes_eq name (codes "plan") then plan_command (number 1 64 slots) table (Some default_budget) (Some unit_weights)
+    else (if bytes_eq name (codes "check") then check_command (number 1 64 slots) table (Some unit_weights) else None)
 command (name ∷ first ∷ second ∷ third ∷ []) =
-    if bytes_eq name (codes "plan") then plan_command (number 1 64 first) second (number 0 150000 third)
+    if bytes_eq name (codes "plan") then plan_command (number 1 64 first) second (number 0 150000 third) (Some unit_weights)
     else (if bytes_eq name (codes "trial") then trial_command (number 1 200 first) (number 1 64 second) third else None)
+command (name ∷ slots ∷ table ∷ load ∷ store ∷ []) =
+    if bytes_eq name (codes "check") then check_command (number 1 64 slots) table (weights_by load store) else None
+command (name ∷ slots ∷ table ∷ budget ∷ load ∷ store ∷ []) =
+    if bytes_eq name (codes "plan") then plan_command (number 1 64 slots) table (number 0 150000 budget) (weights_by load store) else None
 command _ = None
 
 -- the command that the program's words spell
@@ -92,8 +108,8 @@ file_named_by words = file_word (map string_bytes words)
 
 -- the numbers of a command are in range
 abbrev pub IsInLimits : Command → Type 0
-IsInLimits (Plan asked) = (1 ≤ asked.slots) × (asked.slots ≤ 64) × (asked.budget ≤ 150000)
-IsInLimits (Check asked) = (1 ≤ asked.slots) × (asked.slots ≤ 64)
+IsInLimits (Plan asked) = (1 ≤ asked.slots) × (asked.slots ≤ 64) × (asked.budget ≤ 150000) × AreWeights asked.weights
+IsInLimits (Check asked) = (1 ≤ asked.slots) × (asked.slots ≤ 64) × AreWeights asked.weights
 IsInLimits Run = Unit {0}
 IsInLimits Exec = Unit {0}
 IsInLimits Graph = Unit {0}

@@ -1,4 +1,8 @@
 //! What the words of a command line ask for.
+use comp_graph::Weights;
+
+/// The weights where none are named: a load and a store cost 1.
+pub const UNIT_WEIGHTS: Weights = Weights { load: 1, store: 1 };
 
 /// What the words ask for.
 #[derive(Clone, Copy, Debug, PartialEq, Eq)]
@@ -24,6 +28,8 @@ pub struct Planning {
     pub slots: u16,
     /// The number of positions that may be expanded, from 0 to 150,000.
     pub budget: u32,
+    /// The costs of a load and a store, each from 1 to 16.
+    pub weights: Weights,
 }
 
 /// What `check` asks for.
@@ -31,6 +37,8 @@ pub struct Planning {
 pub struct Checking {
     /// The number of slots, from 1 to 64.
     pub slots: u16,
+    /// The costs of a load and a store, each from 1 to 16.
+    pub weights: Weights,
 }
 
 /// What `trial` asks for.

@@ -26,7 +26,7 @@ const TOO_SMALL: &str = "too small needs 2\n";
 const GRAPH: &str = "vertices 2\ninputs 1\ndegree 1\n0 in x\n1 add v0 #1\nout y v1\n";
 
 const USAGE: &str =
-    "usage: pebble plan S TABLE [BUDGET], check S TABLE, run VALUES, exec VALUES, graph, trial N S TABLE\n";
+    "usage: pebble plan S TABLE [BUDGET [A B]], check S TABLE [A B], run VALUES, exec VALUES, graph, trial N S TABLE\n";
 
 /// Words, the kind and the number of the call that fails, and what comes of them.
 #[derive(Clone, Copy)]

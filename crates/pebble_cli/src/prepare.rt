@@ -1,7 +1,7 @@
 //! The whole answer of a run, before anything is written.
 ghost use Rattle.std.specs.Prelude.{◌≡◌, ◌≢◌, ◌⊎◌, ◌<◌, ◌≤◌, ℕ, List, length, true, false, IfOk, IfErr, Err, Some};
 ghost use Rattle.comp_graph.specs.Dags.{degree};
-ghost use Rattle.comp_graph.specs.Games.{unit_weights};
+ghost use Rattle.comp_graph.specs.Games.{AreWeights};
 ghost use Rattle.comp_graph.specs.Graphs.{dag_of};
 ghost use Rattle.desk_io.specs.declared.desk.Kind.{Kind};
 ghost use Rattle.scratch_machine.specs.Codes.{CodeParts};
@@ -93,7 +93,7 @@ fn check_on_file<D: Desk>(
     asked: Checking,
 ) -> Result<Answer, EarlyEnd>
     requires slots { game.now.slots ≡ asked.slots }
-    requires unit { game.now.weights ≡ unit_weights }
+    requires weights { game.now.weights ≡ asked.weights }
     requires room { degree (dag_of game.now.graph) < asked.slots }
     ensures answers { (text : List ℕ) (kernel : KernelParts) → IsAccepted text kernel game.now.graph →
         IfAnswer result (Meets (Checks asked text (D.file desk.old))) }
@@ -119,6 +119,7 @@ fn check_graph<D: Desk>(
 ) -> Result<Answer, EarlyEnd>
     requires some { 0 < asked.slots }
     requires few { asked.slots ≤ 64 }
+    requires weights { AreWeights asked.weights }
     ensures answers { (text : List ℕ) (kernel : KernelParts) → IsAccepted text kernel graph →
         IfAnswer result (λ answer. Meets (IsTooSmall asked.slots text) answer ⊎ Meets (Checks asked text (D.file desk.old)) answer) }
     ensures fault { result ≡ Err EarlyEnd.ReadFault → (degree (dag_of graph) < asked.slots)
@@ -129,7 +130,7 @@ fn check_graph<D: Desk>(
     ensures same_file { D.file desk.new ≡ D.file desk.old }
     ensures same_output { D.output desk.new ≡ D.output desk.old }
 {
-    let game = played_game(alloc, graph, asked.slots)?;
+    let game = played_game(alloc, graph, asked.slots, asked.weights)?;
     check_on_file(alloc, desk, &game, asked)
 }
 

@@ -309,7 +309,7 @@ const ROWS: [Row; 32] = [
 ];
 
 const USAGE: &str =
-    "usage: pebble plan S TABLE [BUDGET], check S TABLE, run VALUES, exec VALUES, graph, trial N S TABLE\n";
+    "usage: pebble plan S TABLE [BUDGET [A B]], check S TABLE [A B], run VALUES, exec VALUES, graph, trial N S TABLE\n";
 
 // Adds a number of four bytes and one of eight, each of which is below 256.
 fn add_word(bytes: &mut Vec<u8>, zeros: usize, number: u8) -> Result<(), Fail> {

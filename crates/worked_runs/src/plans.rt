@@ -17,7 +17,7 @@ const P_PRINTED: &str =
 const P_TABLE: [u8; 18] = [82, 66, 80, 84, 0, 1, 0, 2, 0, 2, 0, 0, 0, 2, 0, 0, 0, 0];
 
 const USAGE: &str =
-    "usage: pebble plan S TABLE [BUDGET], check S TABLE, run VALUES, exec VALUES, graph, trial N S TABLE\n";
+    "usage: pebble plan S TABLE [BUDGET [A B]], check S TABLE [A B], run VALUES, exec VALUES, graph, trial N S TABLE\n";
 
 /// Words, a kernel, and the status, the printed text and the file that they give; the file holds `old` before.
 #[derive(Clone, Copy)]

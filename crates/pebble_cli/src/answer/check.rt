@@ -2,7 +2,6 @@
 ghost use Rattle.std.specs.Prelude.{◌≡◌, ◌≤◌, ◌<◌, ℕ, List, length, IfOk, None};
 ghost use Rattle.std.specs.declared.option.Option.{Option};
 ghost use Rattle.comp_graph.specs.Dags.{degree};
-ghost use Rattle.comp_graph.specs.Games.{unit_weights};
 ghost use Rattle.comp_graph.specs.Graphs.{dag_of};
 ghost use Rattle.desk_io.specs.Known.{TellsFile, file_items};
 ghost use Rattle.kernel_ast.specs.KernelParts.{KernelParts};
@@ -60,7 +59,7 @@ fn table_answer(
     bytes: &[u8],
 ) -> Result<Answer, NoMemory>
     requires slots { game.now.slots ≡ asked.slots }
-    requires unit { game.now.weights ≡ unit_weights }
+    requires weights { game.now.weights ≡ asked.weights }
     requires room { degree (dag_of game.now.graph) < asked.slots }
     requires short { length bytes.now ≤ 20000000 }
     ensures { IfOk result (λ answer. (text : List ℕ) (kernel : KernelParts) (file : Option (Option (List ℕ))) →
@@ -86,7 +85,7 @@ pub fn check_answer(
     file: &FileBytes,
 ) -> Result<Answer, NoMemory>
     requires slots { game.now.slots ≡ asked.slots }
-    requires unit { game.now.weights ≡ unit_weights }
+    requires weights { game.now.weights ≡ asked.weights }
     requires room { degree (dag_of game.now.graph) < asked.slots }
     requires limit { (held : Option (Option (List ℕ))) × IsFileOf held 20000000 file.now }
     ensures { IfOk result (λ answer. (text : List ℕ) (kernel : KernelParts) (held : Option (Option (List ℕ))) →

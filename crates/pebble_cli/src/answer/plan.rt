@@ -1,5 +1,6 @@
 //! The answer of `plan`.
 ghost use Rattle.std.specs.Prelude.{◌≡◌, ◌≢◌, ◌⊎◌, ◌<◌, ◌≤◌, ◌^◌, ◌++◌, ℕ, List, length, IfOk, Err, Some};
+ghost use Rattle.comp_graph.specs.Games.{AreWeights};
 ghost use Rattle.desk_io.specs.Known.{file_items};
 ghost use Rattle.kernel_ast.specs.KernelParts.{KernelParts};
 ghost use Rattle.normal_steps.specs.Plans.{IsPlan};
@@ -131,10 +132,11 @@ pub fn plan_answer(alloc: Global, graph: Graph, asked: Planning) -> Result<Answe
     requires some { 0 < asked.slots }
     requires few { asked.slots ≤ 64 }
     requires budget { asked.budget ≤ 150000 }
+    requires weights { AreWeights asked.weights }
     ensures answers { (text : List ℕ) (kernel : KernelParts) → IsAccepted text kernel graph →
         IfAnswer result (λ answer. Meets (IsTooSmall asked.slots text) answer ⊎ Meets (IsPlanned asked text) answer) }
     ensures no_fault { result ≢ Err EarlyEnd.ReadFault }
 {
-    let game = played_game(alloc, graph, asked.slots)?;
+    let game = played_game(alloc, graph, asked.slots, asked.weights)?;
     Ok(planned(alloc, &game, asked)?)
 }

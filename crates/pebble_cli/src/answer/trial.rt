@@ -16,7 +16,7 @@ ghost use Rattle.pebble_cli.specs.TrialAnswers.{IsTried, planning_of};
 use super::plan::facts_of_found;
 use super::too_small::played_game;
 use super::{Answer, EarlyEnd};
-use crate::commands::{Planning, TrialPlanning};
+use crate::commands::{Planning, TrialPlanning, UNIT_WEIGHTS};
 use crate::status::Status;
 use branch_bound::{Found, search};
 use comp_graph::{Game, Graph, NoMemory};
@@ -35,6 +35,7 @@ fn planning_of(asked: TrialPlanning) -> Planning
     Planning {
         slots: asked.slots,
         budget: TRIAL_BUDGET,
+        weights: UNIT_WEIGHTS,
     }
 }
 
@@ -87,6 +88,6 @@ pub fn trial_answer(alloc: Global, graph: Graph, asked: TrialPlanning) -> Result
         ⊎ Meets (IsTried asked) answer) }
     ensures no_fault { result ≢ Err EarlyEnd.ReadFault }
 {
-    let game = played_game(alloc, graph, asked.slots)?;
+    let game = played_game(alloc, graph, asked.slots, UNIT_WEIGHTS)?;
     Ok(tried(alloc, &game, asked)?)
 }

@@ -9,7 +9,7 @@ use comp_graph::NoMemory;
 use std::alloc::Global;
 
 const USAGE: &str =
-    "usage: pebble plan S TABLE [BUDGET], check S TABLE, run VALUES, exec VALUES, graph, trial N S TABLE\n";
+    "usage: pebble plan S TABLE [BUDGET [A B]], check S TABLE [A B], run VALUES, exec VALUES, graph, trial N S TABLE\n";
 
 /// The answer to words that spell no command: the usage line.
 pub fn usage_answer(alloc: Global) -> Result<Answer, NoMemory>

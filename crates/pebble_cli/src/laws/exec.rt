@@ -24,7 +24,7 @@ pub fn exec_answers()
 {}
 
 /// What `plan` prints of a kernel is a code, where it has at most 20,000,000 bytes: on each values file of the kernel `exec` prints of it
-/// what `run` prints of the kernel, and then the printed cost as the number of transfers.
+/// what `run` prints of the kernel, and then the number of loads and stores of the run, which weigh the printed cost.
 pub fn plans_run_as_sources()
     ensures reads { PlansReadBack }
     ensures same { PlansRunAsSources }

@@ -1,8 +1,10 @@
 //! What the words of a command line spell.
-ghost use Rattle.std.specs.Prelude.{◌≡◌, ◌≤◌, ◌^◌, ◌<◌, true, ◌∷◌, [], length, SomeIff, IfSome, map, string_bytes};
-ghost use Rattle.pebble_cli.specs.Words.{are_digits, is_plain, digits_after, number, plan_command, trial_command, command, asked_by, file_named_by, word_at, IsInLimits};
+ghost use Rattle.std.specs.Prelude.{◌≡◌, ◌≤◌, ◌^◌, ◌<◌, true, ◌∷◌, [], length, Some, SomeIff, IfSome, map, string_bytes};
+ghost use Rattle.comp_graph.specs.Games.{AreWeights, unit_weights};
+ghost use Rattle.pebble_cli.specs.Words.{are_digits, is_plain, digits_after, number, weights_by, plan_command, trial_command, command, asked_by, file_named_by, word_at, IsInLimits};
 
-use crate::commands::{Checking, Command, Planning, TrialPlanning};
+use crate::commands::{Checking, Command, Planning, TrialPlanning, UNIT_WEIGHTS};
+use comp_graph::Weights;
 
 /// The greatest number of slots.
 const MOST_SLOTS: u32 = 64;
@@ -15,6 +17,9 @@ const MOST_BUDGET: u32 = 150_000;
 
 /// The budget of a plan that names none.
 const DEFAULT_BUDGET: u32 = 20_000;
+
+/// The greatest weight.
+const MOST_WEIGHT: u32 = 16;
 
 // Whether each byte is an ASCII digit.
 fn are_digits(bytes: &[u8]) -> bool
@@ -59,9 +64,24 @@ fn number(low: u32, high: u32, word: &str) -> Option<u32>
     }
 }
 
-/// The command that the words spell: `plan S TABLE`, `plan S TABLE BUDGET` or `check S TABLE`, with S from 1 to 64 and BUDGET from 0 to
-/// 150,000 in plain decimal and TABLE any word that is not empty; `run VALUES` or `exec VALUES`, with VALUES any word that is not empty;
-/// `graph`; or `trial N S TABLE`, with N from 1 to 200. All other words spell none. Without a BUDGET it is 20,000.
+// The weights of a load and a store that two words spell.
+fn weights(load: &str, store: &str) -> Option<Weights>
+    ensures value { result ≡ weights_by load.now store.now }
+    ensures limits { IfSome result AreWeights }
+{
+    let load = number(1, MOST_WEIGHT, load)?;
+    let store = number(1, MOST_WEIGHT, store)?;
+    Some(Weights {
+        load: load as u8,
+        store: store as u8,
+    })
+}
+
+/// The command that the words spell: `plan S TABLE`, `plan S TABLE BUDGET`, `plan S TABLE BUDGET A B`, `check S TABLE` or
+/// `check S TABLE A B`, with S from 1 to 64, BUDGET from 0 to 150,000, and A and B from 1 to 16 in plain decimal and TABLE any word that is
+/// not empty; `run VALUES` or `exec VALUES`, with VALUES any word that is not empty; `graph`; or `trial N S TABLE`,
+/// with N from 1 to 200. All other words spell none. Without a BUDGET it is 20,000, and without A and B, the costs of a load and a store,
+/// both are 1.
 pub fn command(words: &[String]) -> Option<Command>
     ensures value { result ≡ asked_by words.now }
     ensures limits { IfSome result IsInLimits }
@@ -75,6 +95,21 @@ pub fn command(words: &[String]) -> Option<Command>
             first.as_str(),
             second.as_str(),
             third.as_str(),
+        ),
+        [name, slots, table, load, store] => weighted_check(
+            name.as_str(),
+            slots.as_str(),
+            table.as_str(),
+            load.as_str(),
+            store.as_str(),
+        ),
+        [name, slots, table, budget, load, store] => weighted_plan(
+            name.as_str(),
+            slots.as_str(),
+            table.as_str(),
+            budget.as_str(),
+            load.as_str(),
+            store.as_str(),
         ),
         _ => None,
     }
@@ -122,10 +157,12 @@ fn table_command(name: &str, slots: &str, table: &str) -> Option<Command>
         Some(Command::Plan(Planning {
             slots: slots as u16,
             budget: DEFAULT_BUDGET,
+            weights: UNIT_WEIGHTS,
         }))
     } else if name == "check" {
         Some(Command::Check(Checking {
             slots: slots as u16,
+            weights: UNIT_WEIGHTS,
         }))
     } else {
         None
@@ -148,7 +185,7 @@ fn four_word_command(name: &str, first: &str, second: &str, third: &str) -> Opti
 
 // The plan with these slots, this table and this budget.
 fn budgeted_plan(slots: &str, table: &str, budget: &str) -> Option<Command>
-    ensures value { result ≡ plan_command (number 1 64 slots.now) table.now (number 0 150000 budget.now) }
+    ensures value { result ≡ plan_command (number 1 64 slots.now) table.now (number 0 150000 budget.now) (Some unit_weights) }
     ensures limits { IfSome result IsInLimits }
 {
     if table.is_empty() {
@@ -159,6 +196,48 @@ fn budgeted_plan(slots: &str, table: &str, budget: &str) -> Option<Command>
     Some(Command::Plan(Planning {
         slots: slots as u16,
         budget,
+        weights: UNIT_WEIGHTS,
+    }))
+}
+
+// The command of five words.
+fn weighted_check(name: &str, slots: &str, table: &str, load: &str, store: &str) -> Option<Command>
+    ensures value { result ≡ command (name.now ∷ slots.now ∷ table.now ∷ load.now ∷ store.now ∷ []) }
+    ensures limits { IfSome result IsInLimits }
+{
+    if name != "check" || table.is_empty() {
+        return None;
+    }
+    let slots = number(1, MOST_SLOTS, slots)?;
+    let weights = weights(load, store)?;
+    Some(Command::Check(Checking {
+        slots: slots as u16,
+        weights,
+    }))
+}
+
+// The command of six words.
+fn weighted_plan(
+    name: &str,
+    slots: &str,
+    table: &str,
+    budget: &str,
+    load: &str,
+    store: &str,
+) -> Option<Command>
+    ensures value { result ≡ command (name.now ∷ slots.now ∷ table.now ∷ budget.now ∷ load.now ∷ store.now ∷ []) }
+    ensures limits { IfSome result IsInLimits }
+{
+    if name != "plan" || table.is_empty() {
+        return None;
+    }
+    let slots = number(1, MOST_SLOTS, slots)?;
+    let budget = number(0, MOST_BUDGET, budget)?;
+    let weights = weights(load, store)?;
+    Some(Command::Plan(Planning {
+        slots: slots as u16,
+        budget,
+        weights,
     }))
 }
 

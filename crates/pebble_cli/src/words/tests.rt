@@ -1,5 +1,6 @@
 use super::read::{command, file_word};
 use crate::commands::{Checking, Command, Planning, TrialPlanning};
+use comp_graph::Weights;
 use std::alloc::{AllocError, Global};
 use std::test::Fail;
 
@@ -15,18 +16,29 @@ fn words(alloc: Global, line: &str) -> Result<Vec<String>, AllocError> {
 #[test]
 fn commands(rt: HostRuntime) -> Result<(), Fail> {
     let plans = [
-        ("plan 2 t", 2, 20000),
-        ("plan 1 t 0", 1, 0),
-        ("plan 64 t 150000", 64, 150000),
+        ("plan 2 t", 2, 20000, 1, 1),
+        ("plan 1 t 0", 1, 0, 1, 1),
+        ("plan 64 t 150000", 64, 150000, 1, 1),
+        ("plan 3 t 2000 1 16", 3, 2000, 1, 16),
+        ("plan 3 t 0 16 1", 3, 0, 16, 1),
     ];
-    for (line, slots, budget) in plans {
+    for (line, slots, budget, load, store) in plans {
         let plan = words(rt.alloc(), line)?;
-        let asked = Command::Plan(Planning { slots, budget });
+        let weights = Weights { load, store };
+        let asked = Command::Plan(Planning {
+            slots,
+            budget,
+            weights,
+        });
         assert_eq!(rt; command(&plan), Some(asked));
     }
-    let check = words(rt.alloc(), "check 64 t")?;
-    let asked = Command::Check(Checking { slots: 64 });
-    assert_eq!(rt; command(&check), Some(asked));
+    let checks = [("check 64 t", 64, 1, 1), ("check 2 t 2 3", 2, 2, 3)];
+    for (line, slots, load, store) in checks {
+        let check = words(rt.alloc(), line)?;
+        let weights = Weights { load, store };
+        let asked = Command::Check(Checking { slots, weights });
+        assert_eq!(rt; command(&check), Some(asked));
+    }
     let trials = [("trial 1 3 t", 1, 3), ("trial 200 64 t", 200, 64)];
     for (line, statements, slots) in trials {
         let trial = words(rt.alloc(), line)?;
@@ -47,6 +59,11 @@ fn commands(rt: HostRuntime) -> Result<(), Fail> {
         "plan 2 t 150001",
         "plan 2 t 01",
         "plan 2 t 0 0",
+        "plan 2 t 0 0 1",
+        "plan 2 t 0 1 17",
+        "plan 2 t 0 1 1 1",
+        "check 2 t 1",
+        "check 2 t 0 1",
         "plan 2",
         "plan 2 ",
         "plan 2  0",

@@ -18,7 +18,7 @@ returns-in-Ok-check c =
     let game = c.args.game.now in
     let answer = c.accepted.ensures in
     let table = c.in-Ok.table in
-    let of_game = subst (λ g. IsTableOf g table) (is_played game c.args.asked c.requires.slots c.requires.unit) c.in-Ok-check.ensures.holds in
+    let of_game = subst (λ g. IsTableOf g table) (is_played game c.args.asked c.requires.slots c.requires.weights) c.in-Ok-check.ensures.holds in
     certified c.accepted.result c.args.asked game.graph c.args.bytes.now table c.in-Ok-check.bound answer.status answer.text answer.none c.in-Ok-check.ensures.bound
     (record { file = record { short = c.requires.short; spelled = c.in-Ok.ensures.ok }; of_game = of_game }) c.requires.room
 
@@ -29,6 +29,6 @@ returns c =
     let table = c.in-Ok.table in
     let why = c.in-Err.field-0 in
     let file : IsTableFile c.args.bytes.now table = record { short = c.requires.short; spelled = c.in-Ok.ensures.ok } in
-    let refusal = subst (λ g. IsRefusal g table why.reason why.row) (is_played game c.args.asked c.requires.slots c.requires.unit) c.in-Err.ensures.refused in
+    let refusal = subst (λ g. IsRefusal g table why.reason why.row) (is_played game c.args.asked c.requires.slots c.requires.weights) c.in-Err.ensures.refused in
     not_certified c.refused-in-Err.result c.args.asked game.graph c.args.bytes.now c.number.result why.row answer.status answer.text answer.none
     (broken table why.reason file refusal c.number.ensures) c.requires.room

@@ -4,15 +4,17 @@ use Rattle.std.proofs.lemmas.List.{length-map}
 use Rattle.pebble_cli.specs.Words.{command}
 use Rattle.pebble_cli.proofs.words.read.command.Goals as goal
 
-five : (words : List (List ℕ)) → 5 ≤ length words → None ≡ command words
-five [] few = absurd (omega arith)
-five (a ∷ []) few = absurd (omega arith)
-five (a ∷ b ∷ []) few = absurd (omega arith)
-five (a ∷ b ∷ c ∷ []) few = absurd (omega arith)
-five (a ∷ b ∷ c ∷ d ∷ []) few = absurd (omega arith)
-five (a ∷ b ∷ c ∷ d ∷ e ∷ more) few = refl
+seven : (words : List (List ℕ)) → 7 ≤ length words → None ≡ command words
+seven [] few = absurd (omega arith)
+seven (a ∷ []) few = absurd (omega arith)
+seven (a ∷ b ∷ []) few = absurd (omega arith)
+seven (a ∷ b ∷ c ∷ []) few = absurd (omega arith)
+seven (a ∷ b ∷ c ∷ d ∷ []) few = absurd (omega arith)
+seven (a ∷ b ∷ c ∷ d ∷ e ∷ []) few = absurd (omega arith)
+seven (a ∷ b ∷ c ∷ d ∷ e ∷ f ∷ []) few = absurd (omega arith)
+seven (a ∷ b ∷ c ∷ d ∷ e ∷ f ∷ g ∷ more) few = refl
 
 pub returns-in_default-2-clause-value : goal.returns-in_default-2-clause-value
 returns-in_default-2-clause-value c =
     let same = length-map c.args.words.now string_bytes in
-    five (map string_bytes c.args.words.now) (omega (arith, same, c.in_default.len_at_least))
+    seven (map string_bytes c.args.words.now) (omega (arith, same, c.in_default.len_at_least))
