@@ -1,5 +1,5 @@
 //! Floors worked out by hand.
-use crate::evaluating::floor;
+use crate::evaluating::{floor, floor_below};
 use comp_graph::{Game, Graph, Label, Node, Op, Operand, Output, VertexSet, Weights};
 use pebble_rules::Position;
 use std::alloc::{AllocError, Global};
@@ -70,6 +70,10 @@ fn floors(rt: HostRuntime) -> Result<(), Fail> {
             blue: VertexSet::from_words([blue, 0, 0, 0]),
         };
         assert!(rt; floor(&game, &position) == wanted);
+        for enough in [0, 1, 2, 3, 5, 6, 18] {
+            let counted = floor_below(&game, &position, enough);
+            assert!(rt; counted == wanted || (enough <= counted && counted < wanted));
+        }
     }
     Ok(())
 }
