@@ -118,11 +118,13 @@ plans_run_as_sources asked text status printed table limits h short kernel graph
       | inl k ↦ (
         source.0,
         k.2,
-        k.0,
-        k.1,
-        k.3 ∙ text_is right k.0 k.1 ∙ ap (λ l. l ++ transfers_text (transfers k.0)) (sym source.1),
-        weighs right k.0 k.1,
-        λ unit. unit_weighs k.0 (sym (ap (λ w. run_weight w k.0) unit) ∙ weighs right k.0 k.1),
+        (
+          k.0,
+          k.1,
+          k.3 ∙ text_is right k.0 k.1 ∙ ap (λ l. l ++ transfers_text (transfers k.0)) (sym source.1),
+          weighs right k.0 k.1,
+          λ unit. unit_weighs k.0 (sym (ap (λ w. run_weight w k.0) unit) ∙ weighs right k.0 k.1),
+        ),
       )
       | inr k ↦ absurd (let both : Ok right.ending ≡ Err k.0 = sym right.runs ∙ k.1 in cc)
     ]
