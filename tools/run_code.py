@@ -3,8 +3,8 @@
 
   run_code.py check KERNEL OUTPUT TABLE SLOTS STATUS
       checks what `pebble plan SLOTS TABLE 0` made of a kernel: its output, its table file and its exit status
-  run_code.py values KERNEL K
-      prints a values file for a kernel: the K-th of ten lists of inputs
+  run_code.py values KERNEL FOLDER
+      writes ten values files for a kernel, 0 to 9, into a folder that is there
   run_code.py outputs KERNEL VALUES OUTPUT STATUS
       checks what `pebble run VALUES` printed of a kernel, and its exit status
   run_code.py graph KERNEL OUTPUT STATUS
@@ -636,7 +636,9 @@ def main(words):
         if len(words) == 6 and words[0] == 'check':
             check(*words[1:])
         elif len(words) == 3 and words[0] == 'values':
-            print(' '.join(map(str, input_vectors(facts_of(read_kernel(words[1])).inputs)[int(words[2])])))
+            for k, vector in enumerate(input_vectors(facts_of(read_kernel(words[1])).inputs)):
+                with open(os.path.join(words[2], str(k)), 'w', encoding='ascii') as values:
+                    print(' '.join(map(str, vector)), file=values)
         elif len(words) == 5 and words[0] == 'outputs':
             check_outputs(*words[1:])
         elif len(words) == 4 and words[0] == 'graph':
