@@ -15,3 +15,5 @@ mod plans;
 mod searches;
 #[cfg(test)]
 mod trials;
+#[cfg(test)]
+mod weights;
