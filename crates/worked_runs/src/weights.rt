@@ -184,7 +184,7 @@ fn weighted_tables_are_accepted(rt: HostRuntime) -> Result<(), Fail> {
         assert_eq!(rt; refused.status, Status::Refused, "{other}");
         assert_eq!(rt;
             refused.output.as_slice(),
-            b"refused reason 9 row 0\n",
+            "refused reason 9 row 0\n".as_bytes(),
             "{other}"
         );
     }
@@ -197,6 +197,9 @@ fn transfers_are_counted_and_not_weighed(rt: HostRuntime) -> Result<(), Fail> {
     let planned = run_line(rt.alloc(), "plan 3 t 0 1 5", CHAIN.as_bytes(), b"")?;
     let executed = run_line(rt.alloc(), "exec v", planned.output.as_slice(), b"1")?;
     assert_eq!(rt; executed.status, Status::Done);
-    assert_eq!(rt; executed.output.as_slice(), b"y = 144\n; transfers 7\n");
+    assert_eq!(rt;
+        executed.output.as_slice(),
+        "y = 144\n; transfers 7\n".as_bytes()
+    );
     Ok(())
 }
