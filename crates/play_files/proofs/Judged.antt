@@ -13,8 +13,7 @@ use Rattle.pebble_rules.specs.declared.moves.Move.{Move}
 use Rattle.pebble_rules.specs.declared.refusal.Rule.{Rule}
 use Rattle.pebble_rules.specs.declared.replaying.BadMove.{BadMove}
 use Rattle.play_files.specs.declared.judging.PlayFault.TheVariants.{Bad, Incomplete}
-use Rattle.play_files.specs.declared.judging.PlayFault.{PlayFault}
-use Rattle.play_files.specs.Judging.{IsPlayFault, FaultsAreOfNoPebbling, OneFault}
+use Rattle.play_files.specs.Judging.{FaultsAreOfNoPebbling, OneFault}
 
 -- each move of a pebbling is one of the game where it stands
 pub move_of_pebbling : (g : PebbleGame) (p : Position) (ms : List Move) (n : ℕ) (m : Move) → slice_get ms n ≡ Some m → IsPebbling g p ms → IsMove g (position_after p (take n ms)) m
