@@ -1,0 +1,6 @@
+-- The laws are proved in proofs/Judged.antt.
+use Rattle.play_files.proofs.Judged.{faults_are_of_no_pebbling, one_fault}
+use Rattle.play_files.proofs.laws.one_verdict.Goals as goal
+
+pub returns : goal.returns
+returns c = record { none = faults_are_of_no_pebbling; one = one_fault }
