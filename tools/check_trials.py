@@ -4,8 +4,8 @@
   check_trials.py [FROM TO]
       makes the trial kernel of each number of statements from FROM to TO (1 and 200 where they are left out) from its description in
       docs/KERNELS.md, and plans it with 3 and with 6 slots: by `trial`, and as a text by `plan` with the budget 2000. The numbers, the verdict
-      and the bytes of the table are to be the same, the graph is to have 16 inputs and a vertex more for each statement, and with 2 slots
-      `trial` is to ask for 3.
+      and the bytes of the table are to be the same, the graph is to have 16 inputs and a vertex more for each statement, and with as many slots
+      as its degree `trial` is to ask for one more.
 
 The texts share no line with the program. Python 3 alone is needed. The exit status is 0 where all agrees, 1 where something does not (one
 line says what), and 2 for other words. PEBBLE names another program than the one at the top of the repository.
@@ -66,10 +66,13 @@ def faults(statements, table):
     """What does not agree at this number of statements."""
     text = trial_text(statements)
     status, graph = run(["graph"], text)
-    if status != 0 or graph.splitlines()[:2] != [f"vertices {16 + statements}", "inputs 16"]:
+    vertices, inputs, degree = (graph.splitlines() + [""] * 3)[:3]
+    if status != 0 or (vertices, inputs) != (f"vertices {16 + statements}", "inputs 16"):
         yield f"the graph has other numbers, or ends with {status}"
-    if run(["trial", str(statements), "2", table]) != (4, "too small needs 3\n") or os.path.exists(table):
-        yield "2 slots are not refused"
+        return
+    few = int(degree.split(" ")[1])
+    if run(["trial", str(statements), str(few), table]) != (4, f"too small needs {few + 1}\n") or os.path.exists(table):
+        yield f"{few} slots are not refused"
     for slots in ("3", "6"):
         planned, report = run(["plan", slots, table, "2000"], text)
         plan_table = taken(table)
