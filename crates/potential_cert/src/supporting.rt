@@ -1,4 +1,4 @@
-//! The support of rows: the greatest bound that they allow.
+//! The support of rows: the least of the cost and of what the steps that leave the rows offer.
 ghost use Rattle.std.specs.Prelude.{◌≡◌, ◌≤◌, List};
 ghost use Rattle.comp_graph.specs.Games.{game_of};
 ghost use Rattle.normal_steps.specs.Steps.{IsStep};
