@@ -29,7 +29,7 @@ OfPlans P = (asked : Planning) (input : List ℕ) (file : Option (Option (List �
 abbrev pub PlansAreAnswered : Type 0
 PlansAreAnswered = OfPlans (λ asked graph status. (status ≡ Optimal) ⊎ (status ≡ Open))
 
--- The number is the support of the rows of the search and the cost of the plan that it finds. There is one.
+-- The number is the support of the rows of the search and the cost of the plan that it finds.
 abbrev pub IsBoundAsked : Planning → GraphParts → ℕ → Type 0
 IsBoundAsked asked graph bound = IsSupport (played_for asked graph) (rows_asked asked graph) (plan_asked asked graph).total bound
 

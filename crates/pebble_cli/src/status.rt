@@ -11,7 +11,7 @@ pub enum Status {
     Optimal,
     /// Another command did what its words ask.
     Done,
-    /// `check` refused a table.
+    /// `check` refused the file: it is no table, or its table does not prove its bound.
     Refused,
     /// The words spell no command.
     Usage,
@@ -19,7 +19,7 @@ pub enum Status {
     Kernel,
     /// There are no more slots than the kernel's degree.
     TooSmall,
-    /// `plan`: the plan costs more than the lower bound.
+    /// `plan`: the plan costs more than the lower bound, and the budget is spent.
     Open,
     /// The input or the file could not be read.
     ReadFault,

@@ -8,13 +8,13 @@ use std::alloc::{AllocError, Allocator};
 use std::marker::{Model, PhantomData};
 use std::slice;
 
-// Where the memory begins. It owns nothing.
+/// Where the memory begins. It owns nothing.
 #[derive(Clone, Copy)]
 pub struct Base {
     ptr: *mut u64,
 }
 
-// The numbers, and room for as many as there may be. It takes no space.
+/// The numbers, and room for as many as there may be. It takes no space.
 pub struct Cells {
     mark: PhantomData<*const u64>,
     ghost at: { Ptr },
@@ -28,7 +28,7 @@ impl Model for Cells {
     ghost also_shares = { λ c _ κ. cells_lent c.at c.items κ };
 }
 
-// The right to give the memory for `room` numbers at `at` back to `alloc`. It takes no space.
+/// The right to give the memory for `room` numbers at `at` back to `alloc`. It takes no space.
 pub struct Deed<A: Allocator> {
     mark: PhantomData<*const A>,
     ghost at: { Ptr },

@@ -11,7 +11,6 @@ use Rattle.potential_cert.specs.declared.tables.Row.{Row}
 use Rattle.potential_cert.specs.Table.{offer}
 use Rattle.search_laws.specs.Search.{is_waiting, is_expanded, Entry, Search, rows_of}
 
--- no position stands in two entries
 -- no two entries have one position
 abbrev pub AreApart : List Entry → Type 0
 AreApart [] = ⊤

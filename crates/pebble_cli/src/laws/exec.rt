@@ -14,7 +14,7 @@ pub fn code_or_fault()
 
 /// `exec` answers Code, Done, ExecFault or Values. To an input that is a code it answers Done exactly where the file holds a value for each
 /// input and the run on them comes to an end, ExecFault exactly where the run reads what is empty, and Values exactly where the file holds
-/// no such values; each file does one of the two.
+/// no such values; each file holds such values or none.
 pub fn exec_answers()
     ensures statuses { ExecStatuses }
     ensures done { DoneWhereRun }
