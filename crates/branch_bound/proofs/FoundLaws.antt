@@ -8,7 +8,7 @@ use Rattle.comp_graph.specs.Games.{PebbleGame, GameParts, IsGame, game_of}
 use Rattle.comp_graph.proofs.GraphLaws.{IsDag-dag_of}
 use Rattle.pebble_rules.specs.Rules.{start}
 use Rattle.normal_steps.specs.Steps.{IsFinishing, total_cost}
-use Rattle.normal_steps.specs.Plans.{PlanParts, IsPlan, IsNoPlan}
+use Rattle.normal_steps.specs.Plans.{PlanParts, IsPlan}
 use Rattle.normal_steps.specs.declared.step.Step.{Step}
 use Rattle.forced_bounds.specs.Lists.{IsIn}
 use Rattle.forced_bounds.specs.FloorLaws.{FloorOfFinish}
@@ -30,7 +30,7 @@ use Rattle.search_packing.specs.Turning.{IsDone}
 use Rattle.search_packing.proofs.Bounds.{bound_is_support, row_places}
 use Rattle.branch_bound.specs.declared.frontier.Best.{Best}
 use Rattle.branch_bound.specs.declared.frontier.Frontier.{Frontier}
-use Rattle.branch_bound.specs.Frontiers.{store_of, best_of, IsFrontier, rows_below}
+use Rattle.branch_bound.specs.Frontiers.{HasEnded, store_of, best_of, IsFrontier, rows_below}
 use Rattle.branch_bound.specs.declared.searching.Found.{Found}
 use Rattle.branch_bound.specs.declared.searching.Verdict.TheVariants.{Optimal, Open}
 use Rattle.branch_bound.specs.Founds.{IsSearchedTable, IsFound}
@@ -88,10 +88,14 @@ module _ (ends : FloorOfFinish) (game : GameParts) (is : IsGame game) (first : L
   pub costs_no_more : b.cost ≤ total_cost g (start g) first
   costs_no_more = let no_more = no_worse.no_more in let cost = done.packs.cost in omega arith
 
-  -- the steps of the search are a plan
-  pub never_no_plan : (steps : List Step) → steps ≡ (searched g first budget).plan → total_cost g (start g) first ≤ 4294967295 → IsNoPlan g steps → ⊥
-  never_no_plan steps same fits (inl not) = not (subst (IsFinishing g (start g)) (sym same) no_worse.finishing)
-  never_no_plan steps same fits (inr dear) = let costs = ap (total_cost g (start g)) same ∙ no_worse.costs in let no_more = no_worse.no_more in absurd (omega arith)
+  -- the state stands for what the search gives
+  pub has_ended : HasEnded g first (store_of f) (best_of b) (searched g first budget)
+  has_ended = record {
+    plays = done.plays;
+    packs = done.packs;
+    finishing = no_worse.finishing;
+    no_more = let costs = no_worse.costs in let no_more = no_worse.no_more in omega arith;
+  }
 
   module _ (frontier : IsFrontier f) (rows : List Row) (moved : IsPermutation (rows_below (store_of f) (length f.rows.slots)) rows) (sorted : IsSortedBy (λ (r q : Row). precedes r.position q.position) rows) where
     members : HaveSameMembers (rows_searched g first budget) rows

@@ -25,7 +25,7 @@ use Rattle.search_laws.proofs.Lists.{append_cases, in_left, in_right}
 use Rattle.search_laws.proofs.Tests.{contains_in, in_contains}
 use Rattle.search_packing.specs.Packing.{Store}
 use Rattle.search_packing.proofs.Bounds.{row_at}
-use Rattle.branch_bound.specs.Frontiers.{rows_below}
+use Rattle.branch_bound.specs.Frontiers.{StandApart, rows_below}
 
 -- ---- the rows among the places
 
@@ -75,11 +75,7 @@ row_passed s k rows are is = are ∙ sym (append_none (rows_below s k)) ∙ one_
 
 -- ---- rows apart
 
--- no position stands at two places
-abbrev pub StandApart : List Row → Type 0
-StandApart rows = (a b : ℕ) (d : Row) → a < length rows → b < length rows → (get_or rows a d).position ≡ (get_or rows b d).position → a ≡ b
-
-get_in : (rows : List Row) (a : ℕ) (d : Row) → a < length rows → IsIn (get_or rows a d) rows
+pub get_in : (rows : List Row) (a : ℕ) (d : Row) → a < length rows → IsIn (get_or rows a d) rows
 get_in [] a d h = absurd (omega arith)
 get_in (r ∷ rs) zero d h = inl refl
 get_in (r ∷ rs) (suc a) d h = inr (get_in rs a d (omega arith))
@@ -88,7 +84,7 @@ get_in (r ∷ rs) (suc a) d h = inr (get_in rs a d (omega arith))
 abbrev Place : List Row → Row → Row → ℕ → Type 0
 Place rows r d a = ((a < length rows) × (get_or (rows ++ r ∷ []) a d ≡ get_or rows a d)) ⊎ ((a ≡ length rows) × (get_or (rows ++ r ∷ []) a d ≡ r))
 
-apart_push : (rows : List Row) (r : Row) → StandApart rows → ((q : Row) → IsIn q rows → q.position ≡ r.position → ⊥) → StandApart (rows ++ r ∷ [])
+pub apart_push : (rows : List Row) (r : Row) → StandApart rows → ((q : Row) → IsIn q rows → q.position ≡ r.position → ⊥) → StandApart (rows ++ r ∷ [])
 apart_push rows r apart new a b d x y same = by_case (place a x) (place b y)
   where
     size : length (rows ++ r ∷ []) ≡ length rows + 1
@@ -193,7 +189,7 @@ still_apart rows sorted moved apart = IsPermutation-keeps rows StandApart apart 
 
 -- ---- the same rows
 
-pub same_rows : (rows sorted : List Row) → IsPermutation rows sorted → (r : Row) → IsIn r rows ↔ IsIn r sorted
+pub same_rows : {X : Type 0} → (rows sorted : List X) → IsPermutation rows sorted → (r : X) → IsIn r rows ↔ IsIn r sorted
 same_rows rows sorted moved r = (
   λ i. contains_in sorted r (Contains-permutation rows sorted r moved (in_contains r rows i)),
   λ i. contains_in rows r (Contains-permutation sorted rows r (IsPermutation-sym rows sorted moved) (in_contains r sorted i)),

@@ -2,6 +2,8 @@
 use Rattle.std.specs.Prelude.{◌≡◌, ℕ, ◌+◌, ◌*◌, ◌<◌, ◌≤◌, List, [], ◌∷◌, ◌++◌, length, reverse, cond, slice_index_or, zero, suc}
 use Rattle.comp_graph.specs.Games.{PebbleGame, GameParts, game_of}
 use Rattle.pebble_rules.specs.declared.position.Position.{Position}
+use Rattle.pebble_rules.specs.Rules.{start}
+use Rattle.normal_steps.specs.Steps.{IsFinishing, total_cost}
 use Rattle.normal_steps.specs.StepTests.{legal_steps}
 use Rattle.normal_steps.specs.declared.step.Step.{Step}
 use Rattle.forced_bounds.specs.Lists.{IsIn}
@@ -104,6 +106,13 @@ pub record IsPacked (s : packing.Store) : Type 0 where
   pub search : search.Search
   pub packs : packing.Packs g first s best plays search
 
+-- the state stands for this search, whose plan finishes and costs no more than the first one
+pub record HasEnded (g : PebbleGame) (first : List Step) (s : packing.Store) (b : packing.Best) (t : search.Search) : Type 0 where
+  pub plays : ℕ → List Step
+  pub packs : packing.Packs g first s b plays t
+  pub finishing : IsFinishing g (start g) t.plan
+  pub no_more : total_cost g (start g) t.plan ≤ total_cost g (start g) first
+
 -- in each search that the state stands for, this is the play of place k
 abbrev pub IsPlayOf : packing.Store → ℕ → List Step → Type 0
 IsPlayOf s k steps = (g : PebbleGame) (first : List Step) (best : packing.Best) (plays : ℕ → List Step) (t : search.Search) → packing.Packs g first s best plays t → steps ≡ plays k
@@ -117,3 +126,7 @@ IsPlayedFrom s k at turns steps = (g : PebbleGame) (first : List Step) (best : p
 abbrev pub rows_below : packing.Store → ℕ → List Row
 rows_below s zero = []
 rows_below s (suc k) = rows_below s k ++ cond (search.is_expanded (s.at k).mark) (record { position = (s.at k).position; cost = (s.at k).cost } ∷ []) []
+
+-- no position stands at two places of the list
+abbrev pub StandApart : List Row → Type 0
+StandApart rows = (a b : ℕ) (d : Row) → a < length rows → b < length rows → (slice_index_or rows a d).position ≡ (slice_index_or rows b d).position → a ≡ b

@@ -5,9 +5,9 @@ ghost use Rattle.pebble_rules.specs.Rules.{start};
 ghost use Rattle.normal_steps.specs.Plans.{IsPlan};
 ghost use Rattle.normal_steps.specs.Steps.{IsFinishing, total_cost};
 ghost use Rattle.potential_cert.specs.Order.{precedes};
-ghost use Rattle.search_laws.specs.Search.{searched};
+ghost use Rattle.search_laws.specs.Search.{Search};
 ghost use Rattle.search_packing.specs.Turning.{IsDone};
-ghost use Rattle.branch_bound.specs.Frontiers.{IsFrontier, IsSearched, IsSearching, store_of, best_of, rows_below};
+ghost use Rattle.branch_bound.specs.Frontiers.{HasEnded, IsFrontier, IsSearched, IsSearching, store_of, best_of, rows_below};
 ghost use Rattle.branch_bound.specs.declared.searching.Verdict.TheVariants.{Optimal, Open};
 ghost use Rattle.branch_bound.specs.Founds.{IsSearchedTable, IsFound};
 
@@ -50,8 +50,8 @@ pub(crate) struct Searched {
     pub best: Best,
 }
 
-// The places before the first turn: the start, where the first plan costs more than its floor, and else none.
-fn begin(
+/// The places before the first turn: the start, where the first plan costs more than its floor, and else none.
+pub fn begin(
     alloc: Global,
     game: &Game,
     first: &[Step],
@@ -125,20 +125,18 @@ fn sorted_rows(alloc: Global, frontier: &Frontier) -> Result<Vec<Row>, NoMemory>
     Ok(rows)
 }
 
-// The plan of a search that is done.
-fn best_plan<'g>(
+/// The plan of a search that has ended, for which these places and this best step stand. `first` is the plan that it began with.
+pub fn best_plan<'g>(
     alloc: Global,
     first: Plan<'g>,
     frontier: &Frontier,
     best: &Best,
-    budget: u32,
 ) -> Result<Plan<'g>, NoMemory>
-    requires { IsDone (game_of first.game) first.steps budget (store_of frontier.now) (best_of best.now) }
+    requires { (t : Search) × HasEnded (game_of first.game) first.steps (store_of frontier.now) (best_of best.now) t }
     ensures valid { IfOk result IsPlan }
     ensures game { IfOk result (λ plan. plan.game ≡ first.entry.game) }
-    ensures steps { IfOk result (λ plan. plan.steps ≡ (searched (game_of first.entry.game) first.entry.steps budget).plan) }
+    ensures steps { IfOk result (λ plan. (t : Search) → HasEnded (game_of first.entry.game) first.entry.steps (store_of frontier.now) (best_of best.now) t → plan.steps ≡ t.plan) }
 {
-    forced_bounds::laws::floor_at_ends();
     let game = first.game();
     let _slots = game.slots();
     match best.from {
@@ -180,8 +178,8 @@ fn table_of(
     })
 }
 
-// The verdict on a bound and a cost.
-fn verdict_on(bound: u32, cost: u32) -> Verdict
+/// The verdict on a bound and a cost.
+pub fn verdict_on(bound: u32, cost: u32) -> Verdict
     ensures optimal { (result ≡ Optimal) ↔ (bound ≡ cost) }
     ensures open { (result ≡ Open) ↔ (bound ≢ cost) }
 {
@@ -211,7 +209,7 @@ pub fn search<'g>(alloc: Global, first: Plan<'g>, budget: u32) -> Result<Found<'
     let Searched { frontier, best } = run(alloc, game, first.steps(), first_cost, budget)?;
     let table = table_of(alloc, game, first.steps(), &frontier, &best, budget)?;
     let verdict = verdict_on(table.bound, best.cost);
-    let plan = best_plan(alloc, first, &frontier, &best, budget)?;
+    let plan = best_plan(alloc, first, &frontier, &best)?;
     Ok(Found {
         plan,
         first_cost,

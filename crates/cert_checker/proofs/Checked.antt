@@ -17,17 +17,17 @@ use Rattle.normal_steps.specs.Sound.{IsSound}
 use Rattle.cert_checker.specs.Refusals.{EachRow, IsFirstWithout, IsFirstFall, IsRefusal, Passes, PassesBefore, RefusedIsNoTable, StepsHold, FinishHolds}
 use Rattle.cert_checker.specs.declared.refusal.Reason.{Reason}
 use Rattle.cert_checker.specs.declared.refusal.Refused.{Refused}
-use Rattle.cert_checker.specs.declared.refusal.Reason.TheVariants.{Graph, Slots, Weights, Order, Position, Start, Step, Finish}
+use Rattle.cert_checker.specs.declared.refusal.Reason.TheVariants.{Graph, Slots, Weights, Order, Position, Start, Cover, Step, Finish}
 use Rattle.potential_cert.proofs.Places.{at_in, in_at, at_below, at_one}
 use Rattle.cert_checker.proofs.RowTests.{EachBefore}
 use Rattle.potential_cert.proofs.RowSearch.{row_rise}
 
 -- ---- rows one by one
 
-pub each_row : (P : Row → Type 0) (rows : List Row) (n : ℕ) → length rows ≤ n → EachBefore P rows n → EachRow P rows
+pub each_row : {X : Type 0} → (P : X → Type 0) (rows : List X) (n : ℕ) → length rows ≤ n → EachBefore P rows n → EachRow P rows
 each_row P rows n all each k r at = each k r (let below = at_below r k rows at in omega arith) at
 
-pub first_without : (P : Row → Type 0) (rows : List Row) (k : ℕ) (r : Row) → IsAt r k rows → (P r → ⊥) → EachBefore P rows k → IsFirstWithout P rows k
+pub first_without : {X : Type 0} → (P : X → Type 0) (rows : List X) (k : ℕ) (r : X) → IsAt r k rows → (P r → ⊥) → EachBefore P rows k → IsFirstWithout P rows k
 first_without P rows k r at lacks each = record { row = r; at = at; lacks = lacks; earlier = each }
 
 -- ---- neighbours
@@ -104,19 +104,20 @@ pub before_start : (g : PebbleGame) (t : TableParts) → PassesBefore g t 4 → 
 before_start g t before here Position l = here
 before_start g t before here e l = before e (omega arith)
 
-pub before_step : (g : PebbleGame) (t : TableParts) → PassesBefore g t 5 → Passes g t Start → PassesBefore g t 6
+pub before_step : (g : PebbleGame) (t : TableParts) → PassesBefore g t 5 → Passes g t Start → PassesBefore g t 7
 before_step g t before here Start l = here
+before_step g t before here Cover l = tt
 before_step g t before here e l = before e (omega arith)
 
-pub before_finish : (g : PebbleGame) (t : TableParts) → PassesBefore g t 6 → Passes g t Step → PassesBefore g t 7
+pub before_finish : (g : PebbleGame) (t : TableParts) → PassesBefore g t 7 → Passes g t Step → PassesBefore g t 8
 before_finish g t before here Step l = here
 before_finish g t before here e l = before e (omega arith)
 
-each_in : (P : Row → Type 0) (rows : List Row) → EachRow P rows → (r : Row) → IsIn r rows → P r
+pub each_in : {X : Type 0} → (P : X → Type 0) (rows : List X) → EachRow P rows → (r : X) → IsIn r rows → P r
 each_in P rows each r i = let at = in_at r rows i in each at.0 r at.1
 
 -- a table that gives no reason is one of the game
-pub passes_all : (g : PebbleGame) (t : TableParts) → PassesBefore g t 7 → Passes g t Finish → IsTableOf g t
+pub passes_all : (g : PebbleGame) (t : TableParts) → PassesBefore g t 8 → Passes g t Finish → IsTableOf g t
 passes_all g t before finish = record {
   vertices = before Graph (omega arith);
   slots = before Slots (omega arith);
@@ -150,5 +151,6 @@ refused_is_no_table g t Weights k is table = is.breaks.1 (table.load, table.stor
 refused_is_no_table g t Order k is table = fall_refutes t.rows k is.breaks table.rise
 refused_is_no_table g t Position k is table = is.breaks.lacks (table.valid.sound is.breaks.row (at_in is.breaks.row k t.rows is.breaks.at))
 refused_is_no_table g t Start k is table = is.breaks.1 table.valid.begins
+refused_is_no_table g t Cover k is table = is.breaks
 refused_is_no_table g t Step k is table = is.breaks.lacks (table.valid.steps is.breaks.row (at_in is.breaks.row k t.rows is.breaks.at))
 refused_is_no_table g t Finish k is table = is.breaks.lacks (table.valid.finishes is.breaks.row (at_in is.breaks.row k t.rows is.breaks.at))

@@ -30,22 +30,22 @@ use Rattle.cert_checker.proofs.Checked.{before_finish, before_order, before_posi
 
 -- ---- what holds or fails
 
-abbrev Decided : Type 0 → Type 0
+abbrev pub Decided : Type 0 → Type 0
 Decided P = P ⊎ (P → ⊥)
 
-by_test : {P : Type 0} → (test : Bool) → (test ≡ true → P) → (P → test ≡ true) → Decided P
+pub by_test : {P : Type 0} → (test : Bool) → (test ≡ true → P) → (P → test ≡ true) → Decided P
 by_test true to from = inl (to refl)
 by_test false to from = inr (λ p. let both = from p in cc)
 
-at_most : (a b : ℕ) → Decided (a ≤ b)
+pub at_most : (a b : ℕ) → Decided (a ≤ b)
 at_most a b = elim (cases_lt b a) [ inl less ↦ inr (λ most. omega (arith, less, most)) | inr most ↦ inl (omega (arith, most)) ]
 
-either : {P Q : Type 0} → Decided P → Decided Q → Decided (P ⊎ Q)
+pub either : {P Q : Type 0} → Decided P → Decided Q → Decided (P ⊎ Q)
 either (inl p) q = inl (inl p)
 either (inr not) (inl q) = inl (inr q)
 either (inr not) (inr none) = inr (λ h. elim h [ inl p ↦ not p | inr q ↦ none q ])
 
-both : {P Q : Type 0} → Decided P → Decided Q → Decided (P × Q)
+pub both : {P Q : Type 0} → Decided P → Decided Q → Decided (P × Q)
 both (inl p) (inl q) = inl (p, q)
 both (inl p) (inr not) = inr (λ h. not h.1)
 both (inr not) q = inr (λ h. not h.0)
@@ -66,7 +66,7 @@ all_below n s = elim (within s (set_below (λ v. true) n)) [
   | inr other ↦ inr (λ below. other (λ v h. let less = below v h in let is = has_set_below (λ v. true) n v in grind (arith, nat_tests)))
 ]
 
-sound : (g : PebbleGame) (p : Place) → Decided (IsSound g p)
+pub sound : (g : PebbleGame) (p : Place) → Decided (IsSound g p)
 sound g p = elim (both (both (all_below g.dag.count p.red) (all_below g.dag.count p.blue)) (both (within g.dag.inputs p.blue) (at_most (set.len p.red) g.slots))) [
   | inl h ↦ inl (record { red_below = h.0.0; blue_below = h.0.1; inputs_blue = h.1.0; fits = h.1.1 })
   | inr not ↦ inr (λ s. not ((s.red_below, s.blue_below), (s.inputs_blue, s.fits)))
@@ -90,7 +90,7 @@ same_place p q = by_test (same_members p.red q.red && same_members p.blue q.blue
 
 -- ---- rows
 
-row_within : (rows : List Row) (q : Place) (most : ℕ) → Decided (HasRowWithin rows q most)
+pub row_within : (rows : List Row) (q : Place) (most : ℕ) → Decided (HasRowWithin rows q most)
 row_within [] q most = inr (λ h. h.1)
 row_within (r ∷ rows) q most = elim (both (same_place r.position q) (at_most r.cost most)) [
   | inl here ↦ inl (r, inl refl, here.0, here.1)
@@ -130,14 +130,14 @@ steps_hold g dag rows bound r is_sound =
       | inr bad ↦ inr (λ all. let at = in_at bad.0 (legal_steps g r.position) bad.1 in bad.2 (all bad.0 ((listed.legal bad.0).0 (at_contains bad.0 at.0 (legal_steps g r.position) at.1))))
     ]
 
-finish_holds : (g : PebbleGame) (bound : ℕ) (r : Row) → Decided (FinishHolds g bound r)
+pub finish_holds : (g : PebbleGame) (bound : ℕ) (r : Row) → Decided (FinishHolds g bound r)
 finish_holds g bound r =
     implied (by_test (can_finish g r.position) (finish_is_tested g r.position).0 (finish_is_tested g r.position).1) (at_most bound (r.cost + finish_cost g r.position))
 
 -- each row has P, or there is a first one that lacks it
-first_or_each : (P : Row → Type 0) (rows : List Row) → ((r : Row) → IsIn r rows → Decided (P r)) → EachRow P rows ⊎ ((k : ℕ) × IsFirstWithout P rows k)
+pub first_or_each : {X : Type 0} → (P : X → Type 0) (rows : List X) → ((r : X) → IsIn r rows → Decided (P r)) → EachRow P rows ⊎ ((k : ℕ) × IsFirstWithout P rows k)
 first_or_each P [] decided = inl (λ k r at. absurd at)
-first_or_each P (r ∷ rows) decided = elim (decided r (inl refl)) [
+first_or_each {X} P (r ∷ rows) decided = elim (decided r (inl refl)) [
   | inr not ↦ inr (zero, record { row = r; at = refl; lacks = not; earlier = λ j q less at. absurd (omega arith) })
   | inl here ↦ elim (first_or_each P rows (λ q i. decided q (inr i))) [
     | inl rest ↦ inl (all here rest)
@@ -149,12 +149,12 @@ first_or_each P (r ∷ rows) decided = elim (decided r (inl refl)) [
     all here rest zero q at = subst P (sym at) here
     all here rest (suc k) q at = rest k q at
 
-    before : P r → (k : ℕ) → ((j : ℕ) (q : Row) → j < k → IsAt q j rows → P q) → (j : ℕ) (q : Row) → j < suc k → IsAt q j (r ∷ rows) → P q
+    before : P r → (k : ℕ) → ((j : ℕ) (q : X) → j < k → IsAt q j rows → P q) → (j : ℕ) (q : X) → j < suc k → IsAt q j (r ∷ rows) → P q
     before here k earlier zero q less at = subst P (sym at) here
     before here k earlier (suc j) q less at = earlier j q (omega arith) at
 
 -- the rows rise, or there is a first one that does not come after the one before it
-rise_or_fall : (rows : List Row) → IsRising precedes rows ⊎ ((k : ℕ) × IsFirstFall rows k)
+pub rise_or_fall : (rows : List Row) → IsRising precedes rows ⊎ ((k : ℕ) × IsFirstFall rows k)
 rise_or_fall [] = inl tt
 rise_or_fall (r ∷ []) = inl (λ q i. absurd i, tt)
 rise_or_fall (r ∷ x ∷ rows) = by_order (precedes r.position x.position) refl (rise_or_fall (x ∷ rows))
@@ -194,13 +194,13 @@ rise_or_fall (r ∷ x ∷ rows) = by_order (precedes r.position x.position) refl
 abbrev Outcome : PebbleGame → TableParts → Type 0
 Outcome g t = IsTableOf g t ⊎ ((reason : Reason) × (k : ℕ) × IsRefusal g t reason k)
 
-by_finish : (g : PebbleGame) (t : TableParts) → PassesBefore g t 7 → Outcome g t
+by_finish : (g : PebbleGame) (t : TableParts) → PassesBefore g t 8 → Outcome g t
 by_finish g t before = elim (first_or_each (FinishHolds g t.bound) t.rows (λ r i. finish_holds g t.bound r)) [
   | inl all ↦ inl (passes_all g t before all)
   | inr first ↦ inr (reasons.Finish, first.0, record { breaks = first.1; first = before })
 ]
 
-by_step : (g : PebbleGame) → IsDag g.dag → (t : TableParts) → PassesBefore g t 6 → Outcome g t
+by_step : (g : PebbleGame) → IsDag g.dag → (t : TableParts) → PassesBefore g t 7 → Outcome g t
 by_step g dag t before = elim (first_or_each (StepsHold g t.rows t.bound) t.rows (λ r i. let at = in_at r t.rows i in steps_hold g dag t.rows t.bound r (before reasons.Position (omega arith) at.0 r at.1))) [
   | inl all ↦ by_finish g t (before_finish g t before all)
   | inr first ↦ inr (reasons.Step, first.0, record { breaks = first.1; first = before })

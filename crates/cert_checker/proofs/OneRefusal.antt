@@ -11,10 +11,10 @@ use Rattle.cert_checker.proofs.Checked.{fall_refutes}
 
 -- ---- one row
 
-abbrev Compared : ℕ → ℕ → Type 0
+abbrev pub Compared : ℕ → ℕ → Type 0
 Compared a b = (a < b) ⊎ ((a ≡ b) ⊎ (b < a))
 
-compared : (a b : ℕ) → Compared a b
+pub compared : (a b : ℕ) → Compared a b
 compared zero zero = inr (inl refl)
 compared zero (suc b) = inl (omega arith)
 compared (suc a) zero = inr (inr (omega arith))
@@ -24,7 +24,7 @@ compared (suc a) (suc b) = elim (compared a b) [
   | inr (inr more) ↦ inr (inr (omega (arith, more)))
 ]
 
-one_lack : (P : Row → Type 0) (rows : List Row) (j k : ℕ) → IsFirstWithout P rows j → IsFirstWithout P rows k → j ≡ k
+pub one_lack : {X : Type 0} → (P : X → Type 0) (rows : List X) (j k : ℕ) → IsFirstWithout P rows j → IsFirstWithout P rows k → j ≡ k
 one_lack P rows j k a b = elim (compared j k) [
   | inl less ↦ absurd (a.lacks (b.earlier j a.row less a.at))
   | inr (inl same) ↦ same
@@ -39,7 +39,7 @@ fall_before rows j k a b less =
     let falls = a.falls in
     absurd (grind arith)
 
-one_fall : (rows : List Row) (j k : ℕ) → IsFirstFall rows j → IsFirstFall rows k → j ≡ k
+pub one_fall : (rows : List Row) (j k : ℕ) → IsFirstFall rows j → IsFirstFall rows k → j ≡ k
 one_fall rows j k a b = elim (compared j k) [
   | inl less ↦ fall_before rows j k a b less
   | inr (inl same) ↦ same
@@ -53,6 +53,7 @@ one_row g t reasons.Weights j k a b = a.0 ∙ sym b.0
 one_row g t reasons.Order j k a b = one_fall t.rows j k a b
 one_row g t reasons.Position j k a b = one_lack _ t.rows j k a b
 one_row g t reasons.Start j k a b = a.0 ∙ sym b.0
+one_row g t reasons.Cover j k a b = absurd a
 one_row g t reasons.Step j k a b = one_lack _ t.rows j k a b
 one_row g t reasons.Finish j k a b = one_lack _ t.rows j k a b
 
@@ -66,21 +67,23 @@ breaks_refute g t reasons.Weights k is passes = is.1 passes
 breaks_refute g t reasons.Order k is passes = fall_refutes t.rows k is passes
 breaks_refute g t reasons.Position k is passes = is.lacks (passes k is.row is.at)
 breaks_refute g t reasons.Start k is passes = is.1 passes
+breaks_refute g t reasons.Cover k is passes = is
 breaks_refute g t reasons.Step k is passes = is.lacks (passes k is.row is.at)
 breaks_refute g t reasons.Finish k is passes = is.lacks (passes k is.row is.at)
 
 -- the reason at a place of the order
-reason_at : ℕ → Reason
+pub reason_at : ℕ → Reason
 reason_at zero = reasons.Graph
 reason_at (suc zero) = reasons.Slots
 reason_at (suc (suc zero)) = reasons.Weights
 reason_at (suc (suc (suc zero))) = reasons.Order
 reason_at (suc (suc (suc (suc zero)))) = reasons.Position
 reason_at (suc (suc (suc (suc (suc zero))))) = reasons.Start
-reason_at (suc (suc (suc (suc (suc (suc zero)))))) = reasons.Step
-reason_at (suc (suc (suc (suc (suc (suc (suc n))))))) = reasons.Finish
+reason_at (suc (suc (suc (suc (suc (suc zero)))))) = reasons.Cover
+reason_at (suc (suc (suc (suc (suc (suc (suc zero))))))) = reasons.Step
+reason_at (suc (suc (suc (suc (suc (suc (suc (suc n)))))))) = reasons.Finish
 
-at_its_place : (reason : Reason) → reason_at (place_of_reason reason) ≡ reason
+pub at_its_place : (reason : Reason) → reason_at (place_of_reason reason) ≡ reason
 unfolding reason_at
 at_its_place reasons.Graph = refl
 at_its_place reasons.Slots = refl
@@ -88,6 +91,7 @@ at_its_place reasons.Weights = refl
 at_its_place reasons.Order = refl
 at_its_place reasons.Position = refl
 at_its_place reasons.Start = refl
+at_its_place reasons.Cover = refl
 at_its_place reasons.Step = refl
 at_its_place reasons.Finish = refl
 

@@ -14,7 +14,7 @@ use potential_cert::{Row, Table};
 use std::cmp::Ordering;
 
 /// Checks a table against a game. Ok gives its bound, exactly where it is a table of the game: it has the numbers of its graph, slots and
-/// weights, and its rows rise and support its bound. Else the first reason in the order of `Reason` is given, and the least row
+/// weights, and its rows rise and are valid with its bound. Else the first reason in the order of `Reason` is given, and the least row
 /// for it. It takes no memory.
 pub fn check(game: &Game, table: &Table) -> Result<u32, Refused>
     requires few { length table.now.rows ≤ 4294967295 }

@@ -14,8 +14,8 @@ use normal_steps::{Step, Steps, after, cost, finish};
 use pebble_rules::Position;
 use potential_cert::{Row, row_cost};
 
-// Whether the pebbles of a position stand on vertices, the inputs are blue, and the red pebbles fit the slots.
-pub(crate) fn is_sound(game: &Game, p: &Position) -> bool
+/// Whether the pebbles of a position stand on vertices, the inputs are blue, and the red pebbles fit the slots. It takes no memory.
+pub fn is_sound(game: &Game, p: &Position) -> bool
     ensures { IsTrue result ↔ IsSound (game_of game.now) p.now }
 {
     let graph = game.graph();
@@ -77,8 +77,8 @@ fn has_row_within(rows: &[Row], position: &Position, most: u64) -> bool
     }
 }
 
-// Whether the bound is at most what a row costs with the finish, where it can finish.
-pub(crate) fn finish_holds(game: &Game, bound: u32, row: &Row) -> bool
+/// Whether the bound is at most what a row costs with the finish, where it can finish. It takes no memory.
+pub fn finish_holds(game: &Game, bound: u32, row: &Row) -> bool
     ensures { IsTrue result ↔ FinishHolds (game_of game.now) bound row.now }
 {
     match finish(game, &row.position) {

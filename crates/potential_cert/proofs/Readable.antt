@@ -22,10 +22,10 @@ use Rattle.potential_cert.proofs.ShapeLaws.{drop_each, fault_refutes, first_vers
 
 -- ---- what bytes begin with
 
-after_drop : (k : ℕ) (xs : List ℕ) → AreBytes xs → AreBytes (drop k xs)
+pub after_drop : (k : ℕ) (xs : List ℕ) → AreBytes xs → AreBytes (drop k xs)
 after_drop k xs bytes = record { small = drop_each k xs bytes.small }
 
-front_number : (k : ℕ) (xs : List ℕ) → AreBytes xs → k ≤ length xs → BeginsWithNumber k xs (drop k xs) (big_number k xs)
+pub front_number : (k : ℕ) (xs : List ℕ) → AreBytes xs → k ≤ length xs → BeginsWithNumber k xs (drop k xs) (big_number k xs)
 front_number k xs bytes long = record {
   fits = let small = big_from-lt 0 k xs bytes.small in omega arith;
   bytes_are = spelled_number k xs bytes.small long;
@@ -68,13 +68,13 @@ fourth_long : (w a b c d : ℕ) → 8 * w ≤ a → a ≡ cond (ltb 0 w) 8 0 + b
 fourth_long w a b c d long first second third wanted = grind (arith, nat_tests)
 
 -- the bytes begin with the words of a set
-record HasSet (words : ℕ) (xs : List ℕ) : Type 0 where
-  rest : List ℕ
-  members : Vertices
-  begins : BeginsWithSet words xs rest members
-  bytes : AreBytes rest
+pub record HasSet (words : ℕ) (xs : List ℕ) : Type 0 where
+  pub rest : List ℕ
+  pub members : Vertices
+  pub begins : BeginsWithSet words xs rest members
+  pub bytes : AreBytes rest
 
-front_set : (w : ℕ) → w ≤ 4 → (xs : List ℕ) → AreBytes xs → 8 * w ≤ length xs → HasSet w xs
+pub front_set : (w : ℕ) → w ≤ 4 → (xs : List ℕ) → AreBytes xs → 8 * w ≤ length xs → HasSet w xs
 front_set w few xs bytes long =
     let a = front_word (ltb 0 w) xs bytes (first_long w (length xs) long) in
     let left_a = after_word (ltb 0 w) xs a.rest a.number a.begins in
@@ -176,12 +176,12 @@ shapes_are_spelled bytes are shape = by_version bytes (is_second bytes) are (pas
 
 -- ---- the bytes of a table are bytes
 
-append_small : (xs ys : List ℕ) → AllSmall xs → AllSmall ys → AllSmall (xs ++ ys)
+pub append_small : (xs ys : List ℕ) → AllSmall xs → AllSmall ys → AllSmall (xs ++ ys)
 append_small [] ys p q i = q i
 append_small (x ∷ xs) ys p q zero = p zero
 append_small (x ∷ xs) ys p q (suc i) = append_small xs ys (λ k. p (suc k)) q i
 
-flat_small : {X : Type 0} → (f : X → List ℕ) → ((x : X) → AllSmall (f x)) → (xs : List X) → AllSmall (flat_map f xs)
+pub flat_small : {X : Type 0} → (f : X → List ℕ) → ((x : X) → AllSmall (f x)) → (xs : List X) → AllSmall (flat_map f xs)
 flat_small f each [] i = omega arith
 flat_small f each (x ∷ xs) i = append_small (f x) (flat_map f xs) (each x) (flat_small f each xs) i
 
@@ -199,7 +199,7 @@ weights_small false load store i = append_small (big_endian 1 load) (big_endian 
 set_small : (w : ℕ) (s : Vertices) → AllSmall (set_bytes w s)
 set_small w s = flat_small (big_endian 8) (number_bytes 8) (take w (words_of s))
 
-row_small : (w : ℕ) (r : Row) → AllSmall (row_bytes w r)
+pub row_small : (w : ℕ) (r : Row) → AllSmall (row_bytes w r)
 row_small w r =
     append_small (big_endian 4 r.cost) (set_bytes w r.position.red ++ set_bytes w r.position.blue) (number_bytes 4 r.cost)
     (append_small (set_bytes w r.position.red) (set_bytes w r.position.blue) (set_small w r.position.red) (set_small w r.position.blue))
@@ -226,7 +226,7 @@ table_small t =
 -- ---- spelled or not
 
 -- the numbers are bytes, or one of them is none
-small_or_not : (xs : List ℕ) → AllSmall xs ⊎ ((i : ℕ) × (256 ≤ slice_index xs i))
+pub small_or_not : (xs : List ℕ) → AllSmall xs ⊎ ((i : ℕ) × (256 ≤ slice_index xs i))
 small_or_not [] = inl (λ i. omega arith)
 small_or_not (x ∷ xs) = elim (cases_lt x 256) [
   | inl small ↦ elim (small_or_not xs) [ inl all ↦ inl (each small all) | inr large ↦ inr (suc large.0, large.1) ]

@@ -1,7 +1,7 @@
 //! Tables of positions with costs, the bound that they support, and their bytes.
 #![tactic(auto)]
 
-mod cursor;
+pub mod cursor;
 pub mod end;
 pub mod laws;
 pub mod reading;
@@ -14,7 +14,7 @@ pub mod writing;
 
 pub use end::TableEnd;
 pub use reading::read_table;
-pub use row_search::row_cost;
+pub use row_search::{row_cost, row_place};
 pub use supporting::support;
 pub use tables::{Row, Table};
 pub use writing::write_table;

@@ -3,7 +3,7 @@ use comp_graph::Weights;
 use pebble_rules::Position;
 use std::marker::Model;
 
-/// A position and what a play paid to reach it.
+/// A position and a cost: in a table of a search what a play paid to reach it, and in another any number.
 #[derive(Clone, Copy, PartialEq, Eq)]
 pub struct Row {
     pub position: Position,
@@ -11,7 +11,7 @@ pub struct Row {
 }
 
 /// A table for the game on a graph of this many vertices with this many slots and these weights: rows, and the bound that they are to
-/// support. Contracts see the weights as two numbers and the rows as a list.
+/// prove. Contracts see the weights as two numbers and the rows as a list.
 #[derive(Drop)]
 pub struct Table {
     pub slots: u16,

@@ -73,8 +73,8 @@ fn add_rows(bytes: &mut Vec<u8>, words: u8, rows: &[Row]) -> Result<(), NoMemory
     Ok(())
 }
 
-// Adds the first words of a set.
-fn add_set(bytes: &mut Vec<u8>, words: u8, set: &VertexSet) -> Result<(), NoMemory>
+/// Adds the first words of a set.
+pub fn add_set(bytes: &mut Vec<u8>, words: u8, set: &VertexSet) -> Result<(), NoMemory>
     requires { words ≤ 4 }
     ensures { OnOk result (bytes.new.items ≡ bytes.old.items ++ set_bytes words set.now) }
 {
@@ -84,17 +84,18 @@ fn add_set(bytes: &mut Vec<u8>, words: u8, set: &VertexSet) -> Result<(), NoMemo
     Ok(())
 }
 
-// Adds a number in one byte.
-fn add_u8(bytes: &mut Vec<u8>, number: u8) -> Result<(), NoMemory>
+/// Adds a number in one byte.
+pub fn add_u8(bytes: &mut Vec<u8>, number: u8) -> Result<(), NoMemory>
     ensures { OnOk result (bytes.new.items ≡ bytes.old.items ++ big_endian 1 number) }
 {
     bytes.push(number)?;
     Ok(())
 }
 
-// Adds a number in two bytes.
-fn add_u16(bytes: &mut Vec<u8>, number: u16) -> Result<(), NoMemory>
-    ensures { OnOk result (bytes.new.items ≡ bytes.old.items ++ big_endian 2 number) }
+/// Adds a number in two bytes.
+pub fn add_u16(bytes: &mut Vec<u8>, number: u16) -> Result<(), NoMemory>
+    ensures bytes { OnOk result (bytes.new.items ≡ bytes.old.items ++ big_endian 2 number) }
+    ensures small { number < 2 ^ 16 }
 {
     let mut piece = [0; 2];
     BigEndian::write_u16(&mut piece, number);
@@ -102,8 +103,8 @@ fn add_u16(bytes: &mut Vec<u8>, number: u16) -> Result<(), NoMemory>
     Ok(())
 }
 
-// Adds a number in four bytes.
-fn add_u32(bytes: &mut Vec<u8>, number: u32) -> Result<(), NoMemory>
+/// Adds a number in four bytes.
+pub fn add_u32(bytes: &mut Vec<u8>, number: u32) -> Result<(), NoMemory>
     ensures bytes { OnOk result (bytes.new.items ≡ bytes.old.items ++ big_endian 4 number) }
     ensures small { number < 2 ^ 32 }
 {

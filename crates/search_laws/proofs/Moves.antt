@@ -13,7 +13,7 @@ unfolding settle
 settle_beaten g n t e is why =
     ap (λ o. if_next o t (λ e. cond (is_beaten g t e) (settle g n (give_up e t)) t)) is ∙ ap (λ b. cond b (settle g n (give_up e t)) t) why
 
-settle_unbeaten : (g : PebbleGame) (n : ℕ) (t : Search) (e : Entry) → next_waiting t.entries ≡ Some e → is_beaten g t e ≡ false → settle g n t ≡ t
+pub settle_unbeaten : (g : PebbleGame) (n : ℕ) (t : Search) (e : Entry) → next_waiting t.entries ≡ Some e → is_beaten g t e ≡ false → settle g n t ≡ t
 unfolding settle
 settle_unbeaten g zero t e is why = refl
 settle_unbeaten g (suc n) t e is why =
@@ -37,7 +37,7 @@ same_length : {X Y : Type 0} → (f : X → Y) (xs : List X) → length (map f x
 same_length f [] = refl
 same_length f (x ∷ xs) = ap suc (same_length f xs)
 
-given_up_settles : (g : PebbleGame) (t : Search) (e : Entry) → next_waiting t.entries ≡ Some e → is_beaten g t e ≡ true → settled_of g t ≡ settled_of g (give_up e t)
+pub given_up_settles : (g : PebbleGame) (t : Search) (e : Entry) → next_waiting t.entries ≡ Some e → is_beaten g t e ≡ true → settled_of g t ≡ settled_of g (give_up e t)
 given_up_settles g t e is why =
     sym (settle_more g (length t.entries) t (wait_within t.entries)) ∙ settle_beaten g (length t.entries) t e is why
     ∙ ap (λ n. settle g n (give_up e t)) (sym (same_length _ t.entries))

@@ -1,5 +1,5 @@
 -- The next entry is chosen.
-use Rattle.std.proofs.Common.{◌≡◌, ℕ, zero, suc, ◌+◌, ◌≤◌, ◌<◌, ◌==◌, ltb, leb, Bool, true, false, ◌&&◌, List, [], ◌∷◌, ◌++◌, map, cond, ◌⊎◌, inl, inr, refl, sym, ap, ◌∙◌, subst, arith}
+use Rattle.std.proofs.Common.{◌≡◌, ℕ, zero, suc, ◌+◌, ◌≤◌, ◌<◌, ◌==◌, ltb, leb, Bool, true, false, ◌&&◌, List, [], ◌∷◌, ◌++◌, map, length, cond, ◌⊎◌, inl, inr, refl, sym, ap, ◌∙◌, subst, arith}
 use Rattle.std.specs.Prelude.{fold, filter, Option, Some, None}
 use Rattle.comp_graph.specs.Games.{PebbleGame}
 use Rattle.comp_graph.specs.Dags.{IsDag}
@@ -9,12 +9,12 @@ use Rattle.comp_graph.proofs.DagLaws.{both}
 use Rattle.forced_bounds.specs.Lists.{IsIn}
 use Rattle.forced_bounds.specs.Floor.{floor}
 use Rattle.normal_steps.specs.StepTests.{can_finish}
-use Rattle.search_laws.specs.Search.{Mark, waiting, expanded, given_up, is_waiting, is_expanded, Entry, Search, next_waiting, opened, expand, is_beaten, give_up, search_on, rows_of}
-use Rattle.search_laws.specs.Standing.{IsNext, Stands, row_of}
+use Rattle.search_laws.specs.Search.{Mark, waiting, expanded, given_up, is_waiting, is_expanded, Entry, Search, next_waiting, opened, is_beaten, give_up, rows_of}
+use Rattle.search_laws.specs.Standing.{IsKept, IsNext, row_of}
 use Rattle.search_laws.proofs.Tests.{true_leb}
 use Rattle.search_laws.proofs.Entries.{NoneWaits, NextCases, next_cases, in_rows}
-use Rattle.search_laws.proofs.Turns.{given_up_stands, rows_below}
-use Rattle.search_laws.proofs.Moves.{search_goes_by_turns}
+use Rattle.search_laws.proofs.Turns.{given_up_kept, rows_below, settle_still}
+use Rattle.search_laws.proofs.Moves.{settle_unbeaten, given_up_settles}
 use Rattle.search_packing.specs.Packing.{Place, Store, Best, entry_of, entry_at, is_live, IsChild, IsBest, Packs, IsPopped, IsSamePlaces, IsMarked}
 use Rattle.search_packing.specs.Turning.{IsExpanding, next_entry, IsContinued, Continues, HasNext, FindsNext, HasStopped, Stops}
 use Rattle.search_packing.proofs.Queues.{same_filter, stale_popped, first_is_next, none_is_next}
@@ -23,31 +23,40 @@ use Rattle.search_packing.proofs.Marks.{next_marked}
 -- ---- joining
 
 pub continues_still : (s : Store) (b : Best) → Continues s s b
-continues_still s b g dag most first plays t packs stands = record { search = t; packs = packs; stands = stands; goes = λ n. refl }
+continues_still s b g dag most first plays t packs kept = record { search = t; packs = packs; kept = kept; settles = refl }
 
 pub continues_more : (s u v : Store) (b : Best) → Continues s u b → Continues u v b → Continues s v b
-continues_more s u v b one two g dag most first plays t packs stands =
-    let mid = one g dag most first plays t packs stands in
-    let rest = two g dag most first plays mid.search mid.packs mid.stands in
-    record { search = rest.search; packs = rest.packs; stands = rest.stands; goes = λ n. mid.goes n ∙ rest.goes n }
+continues_more s u v b one two g dag most first plays t packs kept =
+    let mid = one g dag most first plays t packs kept in
+    let rest = two g dag most first plays mid.search mid.packs mid.kept in
+    record { search = rest.search; packs = rest.packs; kept = rest.kept; settles = mid.settles ∙ rest.settles }
 
 pub then_finds : (s u v : Store) (b : Best) (k : ℕ) → Continues s u b → FindsNext u v b k → FindsNext s v b k
-then_finds s u v b k one two g dag most first plays t packs stands =
-    let mid = one g dag most first plays t packs stands in
-    let rest = two g dag most first plays mid.search mid.packs mid.stands in
-    record { within = rest.within; is_row = rest.is_row; search = rest.search; packs = rest.packs; stands = rest.stands; next = rest.next; goes = λ n. mid.goes n ∙ rest.goes n }
+then_finds s u v b k one two g dag most first plays t packs kept =
+    let mid = one g dag most first plays t packs kept in
+    let rest = two g dag most first plays mid.search mid.packs mid.kept in
+    record {
+      within = rest.within;
+      is_row = rest.is_row;
+      search = rest.search;
+      packs = rest.packs;
+      kept = rest.kept;
+      settles = mid.settles ∙ rest.settles;
+      next = rest.next;
+      is_next = rest.is_next;
+    }
 
 pub then_stops : (s u v : Store) (b : Best) → Continues s u b → Stops u v b → Stops s v b
-then_stops s u v b one two g dag most first plays t packs stands =
-    let mid = one g dag most first plays t packs stands in
-    let rest = two g dag most first plays mid.search mid.packs mid.stands in
-    record { search = rest.search; packs = rest.packs; stands = rest.stands; goes = λ n. mid.goes n ∙ rest.goes n }
+then_stops s u v b one two g dag most first plays t packs kept =
+    let mid = one g dag most first plays t packs kept in
+    let rest = two g dag most first plays mid.search mid.packs mid.kept in
+    record { search = rest.search; packs = rest.packs; kept = rest.kept; settles = mid.settles ∙ rest.settles; none_waits = rest.none_waits }
 
 -- ---- a place that does not wait at its queue's cost
 
 pub continues_stale : (s u : Store) (b : Best) (c k : ℕ) → IsPopped s u c k → IsSamePlaces s u → is_live s c k ≡ false → Continues s u b
-continues_stale s u b c k popped same stale g dag most first plays t packs stands =
-    record { search = t; packs = stale_popped g first s u b plays t packs c k popped same stale; stands = stands; goes = λ n. refl }
+continues_stale s u b c k popped same stale g dag most first plays t packs kept =
+    record { search = t; packs = stale_popped g first s u b plays t packs c k popped same stale; kept = kept; settles = refl }
 
 -- ---- the next entry
 
@@ -71,7 +80,7 @@ is_waiting_mark expanded h = absurd (grind arith)
 is_waiting_mark given_up h = absurd (grind arith)
 
 module _ (s u : Store) (b : Best) (c k : ℕ) (popped : IsPopped s u c k) (before : (d : ℕ) → d < c → s.queue d ≡ []) (live : is_live s c k ≡ true)
-    (g : PebbleGame) (dag : IsDag g.dag) (most : ℕ) (first : List Step) (plays : ℕ → List Step) (t : Search) (packs : Packs g first s b plays t) (stands : Stands g most t) where
+    (g : PebbleGame) (dag : IsDag g.dag) (most : ℕ) (first : List Step) (plays : ℕ → List Step) (t : Search) (packs : Packs g first s b plays t) (kept : IsKept g most t) where
   abbrev e : Entry
   e = entry_at s plays k
 
@@ -92,8 +101,8 @@ module _ (s u : Store) (b : Best) (c k : ℕ) (popped : IsPopped s u c k) (befor
       record {
         search = give_up e t;
         packs = next_marked g first s u b plays t packs c k popped given_up marked refl live;
-        stands = given_up_stands g dag most t stands e next why;
-        goes = λ n. (search_goes_by_turns g t).given_up n e is_next why;
+        kept = given_up_kept g dag most t kept e next why;
+        settles = given_up_settles g t e is_next why;
       }
 
   as_it_waited : IsMarked s u k expanded → e ≡ next_entry u plays k
@@ -112,9 +121,10 @@ module _ (s u : Store) (b : Best) (c k : ℕ) (popped : IsPopped s u c k) (befor
         is_row = ap (λ p. is_expanded p.mark) marked.here;
         search = t;
         packs = subst (λ e. Packs g first u b plays (opened e t)) same (next_marked g first s u b plays t packs c k popped expanded marked refl live);
-        stands = stands;
+        kept = kept;
+        settles = settle_unbeaten g (length t.entries) t e is_next why;
         next = subst (IsNext t.entries) same next;
-        goes = λ n. (search_goes_by_turns g t).expanded n e is_next why ∙ ap (λ e. search_on g n (expand g e t)) same;
+        is_next = is_next ∙ ap Some same;
       }
     where
       not_beaten : (x y : ℕ) → y < x → leb x y ≡ false
@@ -122,11 +132,11 @@ module _ (s u : Store) (b : Best) (c k : ℕ) (popped : IsPopped s u c k) (befor
 
 pub continues_given_up : (s u : Store) (b : Best) (c k : ℕ) → IsPopped s u c k → ((d : ℕ) → d < c → s.queue d ≡ []) → IsMarked s u k given_up → is_live s c k ≡ true
     → b.cost ≤ (s.at k).cost + (s.at k).floor → Continues s u b
-continues_given_up s u b c k popped before marked live beaten g dag most first plays t packs stands = gives_up s u b c k popped before live g dag most first plays t packs stands marked beaten
+continues_given_up s u b c k popped before marked live beaten g dag most first plays t packs kept = gives_up s u b c k popped before live g dag most first plays t packs kept marked beaten
 
 pub finds_next : (s u : Store) (b : Best) (c k : ℕ) → IsPopped s u c k → ((d : ℕ) → d < c → s.queue d ≡ []) → IsMarked s u k expanded → is_live s c k ≡ true
     → (s.at k).cost + (s.at k).floor < b.cost → FindsNext s u b k
-finds_next s u b c k popped before marked live better g dag most first plays t packs stands = finds s u b c k popped before live g dag most first plays t packs stands marked better
+finds_next s u b c k popped before marked live better g dag most first plays t packs kept = finds s u b c k popped before live g dag most first plays t packs kept marked better
 
 -- ---- no entry waits
 
@@ -162,12 +172,15 @@ same_packs g first a b best plays t packs same queues = record {
     plan_of (Some r) is = (subst (λ n. r < n) (sym same.size) is.0, subst (λ p. is_expanded p.mark ≡ true) (sym (same.same r)) is.1, is.2)
 
 pub stops_empty : (s u : Store) (b : Best) → IsSamePlaces s u → ((d : ℕ) → s.queue d ≡ []) → ((d : ℕ) → u.queue d ≡ []) → Stops s u b
-stops_empty s u b same empty still g dag most first plays t packs stands = record {
-  search = t;
-  packs = same_packs g first s u b plays t packs same (λ d. still d ∙ sym (empty d));
-  stands = stands;
-  goes = λ n. (search_goes_by_turns g t).none_waits (suc n) (none_is_next g first s b plays t packs empty);
-}
+stops_empty s u b same empty still g dag most first plays t packs kept =
+    let none = none_is_next g first s b plays t packs empty in
+    record {
+      search = t;
+      packs = same_packs g first s u b plays t packs same (λ d. still d ∙ sym (empty d));
+      kept = kept;
+      settles = settle_still g (length t.entries) t none;
+      none_waits = none;
+    }
 
 -- ---- the place that was found
 
@@ -176,5 +189,5 @@ is_expanding s u b k g dag most first plays t has = record {
   within = has.within;
   is_row = has.is_row;
   rows_below = λ j h row.
-      rows_below g dag most has.search has.stands.kept (next_entry u plays k) has.next (row_of (entry_at u plays j)) (in_rows (entry_at u plays j) (opened (next_entry u plays k) has.search).entries (has.packs.placed j h) row);
+      rows_below g dag most has.search has.kept (next_entry u plays k) has.next (row_of (entry_at u plays j)) (in_rows (entry_at u plays j) (opened (next_entry u plays k) has.search).entries (has.packs.placed j h) row);
 }

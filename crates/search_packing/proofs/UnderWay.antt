@@ -13,11 +13,11 @@ use Rattle.forced_bounds.specs.Lists.{IsIn}
 use Rattle.forced_bounds.specs.Floor.{floor}
 use Rattle.forced_bounds.specs.FloorLaws.{FloorOfFinish}
 use Rattle.normal_steps.specs.StepTests.{can_finish, legal_steps}
-use Rattle.search_laws.specs.Search.{waiting, is_waiting, Entry, Search, first_entry, begun, opened, expand, step_tried, search_on, searched}
+use Rattle.search_laws.specs.Search.{waiting, is_waiting, Entry, Search, first_entry, begun, opened, expand, next_waiting, step_tried, search_on, searched}
 use Rattle.search_laws.specs.Buckets.{bucket}
 use Rattle.search_laws.specs.Standing.{Stands}
 use Rattle.search_laws.proofs.Tests.{can_finish_true}
-use Rattle.search_laws.proofs.Turns.{played_sound, has_expanded, search_ends}
+use Rattle.search_laws.proofs.Turns.{played_sound, has_expanded, search_ends, search_goes, search_stops, settles}
 use Rattle.search_laws.proofs.Results.{begun_stands}
 use Rattle.search_packing.specs.Packing.{Place, Store, Best, entry_of, entry_at, is_live, IsChild, Packs}
 use Rattle.search_packing.specs.Turning.{IsExpanding, AreTried, next_entry, HasNext, FindsNext, HasStopped, Stops, IsUnderWay, IsDone}
@@ -149,7 +149,7 @@ module _ (g : PebbleGame) (dag : IsDag g.dag) (first : List Step) (finishing : I
 
 module _ (g : PebbleGame) (dag : IsDag g.dag) (first : List Step) (budget turns : ℕ) (s u : Store) (b : Best) (on : IsUnderWay g first budget turns s b) where
   has_next : (k : ℕ) → FindsNext s u b k → HasNext g (total_cost g (start g) first) first on.plays u b on.search k
-  has_next k finds = finds g dag (total_cost g (start g) first) first on.plays on.search on.packs on.stands
+  has_next k finds = finds g dag (total_cost g (start g) first) first on.plays on.search on.packs on.stands.kept
 
   pub next_expanding : (k : ℕ) → FindsNext s u b k → IsExpanding u k
   next_expanding k finds = is_expanding s u b k g dag (total_cost g (start g) first) first on.plays on.search (has_next k finds)
@@ -157,29 +157,34 @@ module _ (g : PebbleGame) (dag : IsDag g.dag) (first : List Step) (budget turns 
   pub next_sound : (k : ℕ) → FindsNext s u b k → IsSound g (u.at k).position
   next_sound k finds =
       let has = has_next k finds in
-      played_sound g dag (u.at k).position (u.at k).cost (on.plays k) (has.stands.kept.played (next_entry u on.plays k) has.next.member)
+      played_sound g dag (u.at k).position (u.at k).cost (on.plays k) (has.kept.played (next_entry u on.plays k) has.next.member)
 
   pub turned : FloorOfFinish → turns < budget → (k : ℕ) → FindsNext s u b k → (v : Store) (c : Best) → AreTried g k u b v c (legal_steps g (u.at k).position) → IsUnderWay g first budget (turns + 1) v c
   unfolding expand
   turned ends less k finds v c tried =
       let has = has_next k finds in
+      let stands = subst (Stands g (total_cost g (start g) first)) has.settles (settles g dag (total_cost g (start g) first) on.search on.stands).stands in
+      let goes : search_on g (suc (budget - (turns + 1))) on.search ≡ search_on g (budget - (turns + 1)) (expand g (next_entry u on.plays k) has.search) =
+      search_goes g (budget - (turns + 1)) on.search (next_entry u on.plays k) (ap (λ t. next_waiting t.entries) has.settles ∙ has.is_next)
+      ∙ ap (λ t. search_on g (budget - (turns + 1)) (expand g (next_entry u on.plays k) t)) has.settles in
       let went = tried.goes first on.plays (opened (next_entry u on.plays k) has.search) has.packs in
       let left : budget - turns ≡ suc (budget - (turns + 1)) = omega arith in
       record {
         plays = went.0;
         search = expand g (next_entry u on.plays k) has.search;
         packs = went.2;
-        stands = (has_expanded ends g dag (total_cost g (start g) first) has.search has.stands (next_entry u on.plays k) has.next).stands;
-        goes = sym (has.goes (budget - (turns + 1))) ∙ ap (λ n. search_on g n on.search) (sym left) ∙ on.goes;
+        stands = (has_expanded ends g dag (total_cost g (start g) first) has.search stands (next_entry u on.plays k) has.next).stands;
+        goes = sym goes ∙ ap (λ n. search_on g n on.search) (sym left) ∙ on.goes;
       }
 
   pub stopped : turns < budget → Stops s u b → IsDone g first budget u b
   stopped less stops =
-      let has = stops g dag (total_cost g (start g) first) first on.plays on.search on.packs on.stands in
+      let has = stops g dag (total_cost g (start g) first) first on.plays on.search on.packs on.stands.kept in
+      let ends = search_stops g (budget - (turns + 1)) on.search (ap (λ t. next_waiting t.entries) has.settles ∙ has.none_waits) ∙ has.settles in
       let left : budget - turns ≡ suc (budget - (turns + 1)) = omega arith in
       record {
         plays = on.plays;
-        packs = subst (Packs g first u b on.plays) (sym (has.goes (budget - (turns + 1))) ∙ ap (λ n. search_on g n on.search) (sym left) ∙ on.goes) has.packs;
+        packs = subst (Packs g first u b on.plays) (sym ends ∙ ap (λ n. search_on g n on.search) (sym left) ∙ on.goes) has.packs;
       }
 
 pub done : (g : PebbleGame) (first : List Step) (budget turns : ℕ) (s : Store) (b : Best) → budget ≤ turns → IsUnderWay g first budget turns s b → IsDone g first budget s b
