@@ -29,7 +29,7 @@ pub readers_none : (d : Dag) (u : ℕ) → set.empty ≡ set_below (λ w. set.co
 unfolding set_below
 readers_none d u = refl
 
-below_next : (p : ℕ → Bool) (n : ℕ) (here : Bool) → p n ≡ here → set_below p (n + 1) ≡ cond here (set.insert (set_below p n) n) (set_below p n)
+pub below_next : (p : ℕ → Bool) (n : ℕ) (here : Bool) → p n ≡ here → set_below p (n + 1) ≡ cond here (set.insert (set_below p n) n) (set_below p n)
 unfolding set_below
 below_next p n here e = (let one : n + 1 ≡ suc n = omega arith in ap (set_below p) one) ∙ ap (λ b. cond b (set.insert (set_below p n) n) (set_below p n)) e
 
