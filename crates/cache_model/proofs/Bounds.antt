@@ -74,7 +74,7 @@ moves_of_turns g small c (v ∷ vs) =
     let few = one.moves_few in
     omega arith
 
-pub moves_of_run : (g : PebbleGame) → g.dag.count ≤ 256 → length (with_outputs_stored g (with_turns g empty_cache (turns_of g))).moves < 2 ^ 32
+pub moves_of_run : (g : PebbleGame) → g.dag.count ≤ 256 → length (with_outputs_stored g (with_turns g empty_cache (turns_of g))).moves < 2 ^ 31
 moves_of_run g small =
     let last : Cache = with_turns g empty_cache (turns_of g) in
     let turns = moves_of_turns g small empty_cache (turns_of g) in

@@ -4,6 +4,7 @@ use Rattle.std.specs.Prelude.{Option, Some, None, slice_get, is_some, Result, Ok
 use Rattle.std.specs.Option.{option_map_or}
 use Rattle.std.specs.Map.{lookup, lookup_entry, remove_entry}
 use Rattle.std.proofs.lemmas.List.{take_all, map-append}
+use Rattle.std.proofs.lemmas.List.Sums.{count_by-le-length}
 use Rattle.std.proofs.lemmas.Bool.Decides.{nat_tests}
 use Rattle.std.specs.FinSet.{contains, retain}
 use Rattle.lru.specs.LruCache.{lru_cache, promoted, put_entries, displaced}
@@ -12,7 +13,7 @@ use Rattle.comp_graph.specs.Dags.{IsDag}
 use Rattle.comp_graph.specs.Games.{PebbleGame}
 use Rattle.comp_graph.proofs.Rising.{rising-in, rising-out, rising-zero, rising-past}
 use Rattle.pebble_rules.specs.Rules.{cost}
-use Rattle.cache_model.specs.CacheRuns.{loads_of, stores_of}
+use Rattle.cache_model.specs.CacheRuns.{is_load, is_store, loads_of, stores_of}
 use Rattle.cache_model.proofs.Pebbling.{none_past, has_dirty, costs_are_counted}
 use Rattle.pebble_rules.specs.declared.moves.Move.{Move}
 use Rattle.pebble_rules.specs.declared.moves.Move.TheVariants.{Load, Store, Compute}
@@ -315,7 +316,7 @@ pub run_is_whole : (g : PebbleGame) (turned run : Cache) → turned ≡ with_tur
 unfolding whole_run
 run_is_whole g turned run e f = f ∙ ap (with_outputs_stored g) e
 
-pub run_moves_few : (g : PebbleGame) → g.dag.count ≤ 256 → (run : Cache) → run ≡ whole_run g → length run.moves < 2 ^ 32
+pub run_moves_few : (g : PebbleGame) → g.dag.count ≤ 256 → (run : Cache) → run ≡ whole_run g → length run.moves < 2 ^ 31
 unfolding whole_run
 run_moves_few g small run e = let few = moves_of_run g small in let same_moves = ap (λ (c : Cache). length c.moves) e in omega arith
 
@@ -323,3 +324,7 @@ run_moves_few g small run e = let few = moves_of_run g small in let same_moves =
 pub counted_cost : (g : PebbleGame) (ms : List Move) (loads stores : ℕ) → loads ≡ loads_of ms → stores ≡ stores_of ms → cost g ms ≡ g.load * loads + g.store * stores
 counted_cost g ms loads stores e f =
     costs_are_counted g ms ∙ ap (λ n. g.load * n + g.store * stores_of ms) (sym e) ∙ ap (λ n. g.load * loads + g.store * n) (sym f)
+
+-- few moves have few loads and stores
+pub transfers_few : (ms : List Move) → length ms < 2 ^ 31 → loads_of ms + stores_of ms < 2 ^ 32
+transfers_few ms few = let loads = count_by-le-length is_load ms in let stores = count_by-le-length is_store ms in omega arith

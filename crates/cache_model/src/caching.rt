@@ -16,21 +16,26 @@ use std::num::NonZeroUsize;
 /// What a cache does in a game: how many loads and stores it makes, how many touches of predecessors are hits, and its moves.
 #[derive(Drop)]
 pub struct CacheRun {
+    /// How many words are brought in.
     pub loads: u32,
+    /// How many words are written back.
     pub stores: u32,
+    /// How many touches of a predecessor find it in the cache.
     pub hits: u32,
+    /// What the cache does, as moves of the game, one after another.
     pub moves: Vec<Move>,
 }
 
 /// The run of a write-back cache with as many lines as the game has slots. The live vertices that are no inputs are taken in rising number:
 /// the predecessors of each are touched in rising number, and it is computed. A vertex that is touched or computed is the most recently
-/// used; one that is not in the cache is loaded when it is touched, and where the cache is full, the least recently used vertex is evicted
-/// before, which is a store where slow memory lacks it. At the end the outputs that slow memory lacks are stored. `NoMemory` may come at any
-/// allocation.
+/// used; one that is not in the cache is loaded when it is touched. Before a load and before a computation the least recently used vertex is
+/// evicted where the cache is full: it is stored where slow memory lacks it, and then its red pebble is removed. At the end the outputs that
+/// slow memory lacks are stored. The loads and stores together have 32 bits. `NoMemory` may come at any allocation.
 pub fn cached(alloc: Global, game: &Game) -> Result<CacheRun, NoMemory>
     ensures exact { IfOk result (λ run. IsCacheRun (game_of game.now) run) }
     ensures complete { IfOk result (λ run. IsComplete (game_of game.now) (start (game_of game.now)) run.moves.items) }
     ensures cost { IfOk result (λ run. cost (game_of game.now) run.moves.items ≡ game.now.weights.load * run.loads + game.now.weights.store * run.stores) }
+    ensures few { IfOk result (λ run. run.loads + run.stores < 2 ^ 32) }
 {
     let mut caching = all_turns(alloc, game)?;
     caching.store_outputs(game)?;

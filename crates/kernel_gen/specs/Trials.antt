@@ -7,7 +7,7 @@ use Rattle.line_texts.specs.Lines.{ended}
 abbrev pub input : ℕ → List ℕ
 input i = codes "x[" ++ (decimal i ++ codes "]")
 
--- the temporary of the k-th statement: the rows are gone through first
+-- the temporary of the k-th statement: the first index runs fastest
 abbrev pub temporary : ℕ → List ℕ
 temporary k = codes "t[" ++ (decimal (k % 64) ++ (codes "][" ++ (decimal (k / 64) ++ codes "]")))
 

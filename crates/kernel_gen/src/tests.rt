@@ -1,4 +1,4 @@
-//! The text of a small trial kernel, written out by hand, and the ends of the smallest and of the largest.
+//! The text of a small trial kernel, written out by hand, and the ends of the smallest, of the largest, and of the first with a second column.
 use crate::trial;
 use std::test::Fail;
 

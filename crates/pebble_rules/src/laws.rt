@@ -2,8 +2,8 @@
 ghost use Rattle.pebble_rules.specs.FirstBound.{FirstBoundHolds};
 ghost use Rattle.pebble_rules.specs.Laws.{PossibleAboveDegree};
 
-/// No complete pebbling costs less than one store of each output that is no input, and one load of each input that a live vertex
-/// reads.
+/// No complete pebbling costs less, by the game's weights, than one store of each output that is no input, and one load of each input
+/// that a live vertex reads.
 pub fn first_bound_holds()
     ensures { FirstBoundHolds }
 {}

@@ -3,3 +3,5 @@ pub mod ReportText
 pub mod OutputsText
 pub mod GraphText
 pub mod TrialText
+pub mod CacheText
+pub mod PartsText

@@ -25,7 +25,7 @@ pub struct Facts {
     pub first: u32,
     /// The cost of the best plan that was found.
     pub cost: u32,
-    /// The bound that was shown: no plan costs less.
+    /// The bound that was shown: no complete pebbling costs less.
     pub bound: u32,
     /// How many positions were expanded.
     pub expanded: u32,

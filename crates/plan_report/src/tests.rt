@@ -1,7 +1,9 @@
 //! Texts that are written out by hand.
+use crate::cache::{CacheFacts, cache_text};
 use crate::facts::{Facts, report};
 use crate::graph::graph_text;
 use crate::outputs::outputs_text;
+use crate::parts::{PartFacts, parts_text};
 use crate::trial::trial_text;
 use comp_graph::{Graph, Label, Node, Op, Operand, Output, Weights};
 use std::alloc::{AllocError, Global};
@@ -150,6 +152,46 @@ fn trials(rt: HostRuntime) -> Result<(), Fail> {
     };
     let text = trial_text(rt.alloc(), 3, &facts)?;
     let expected = b"trial 3\nvertices 19\nfirst 5\ncost 4 bound 3\nexpanded 7 Open\n";
+    assert!(rt; text.as_slice() == expected.as_slice());
+    Ok(())
+}
+
+// The text has these five lines.
+#[test]
+fn caches(rt: HostRuntime) -> Result<(), Fail> {
+    let facts = CacheFacts {
+        loads: 2,
+        stores: 4,
+        hits: 7,
+        cost: 6,
+        plan_cost: 3,
+        bound: 1,
+    };
+    let text = cache_text(rt.alloc(), &facts)?;
+    let expected =
+        b"cache loads 2\ncache stores 4\ncache hits 7\ncache cost 6\nplan cost 3 bound 1\n";
+    assert!(rt; text.as_slice() == expected.as_slice());
+    Ok(())
+}
+
+// A line for each part, between their number and the sum.
+#[test]
+fn parts(rt: HostRuntime) -> Result<(), Fail> {
+    let parts = [
+        PartFacts {
+            vertices: 15,
+            cost: 9,
+            bound: 9,
+        },
+        PartFacts {
+            vertices: 0,
+            cost: 12,
+            bound: 7,
+        },
+    ];
+    let text = parts_text(rt.alloc(), &parts, 16)?;
+    let expected =
+        b"parts 2\npart 0 vertices 15 cost 9 bound 9\npart 1 vertices 0 cost 12 bound 7\nsum 16\n";
     assert!(rt; text.as_slice() == expected.as_slice());
     Ok(())
 }

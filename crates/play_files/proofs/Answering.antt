@@ -20,6 +20,7 @@ use Rattle.normal_steps.specs.Simulation.{Debts, weight, Follows}
 use Rattle.normal_steps.specs.declared.step.Step.{Step}
 use Rattle.normal_steps.specs.declared.step.Step.TheVariants.{Work, Drop, Spill}
 use Rattle.normal_steps.proofs.Simulation.{none_of, load_owed, load_free, store_owed, store_free, drop_red_free, drop_blue_free, compute_free, work_follows, work_is_step, work_pays, drop_follows, spill_follows, missing_raw, append_after, append_play, append_cost, append_works}
+use Rattle.play_files.specs.Followed.{removal_of}
 use Rattle.play_files.specs.Tidying.{Following, IsFollowing, Answers, AnswersMove}
 
 -- these stores and loads are owed
@@ -147,10 +148,6 @@ module _ (g : PebbleGame) (dag : IsDag g.dag) (raw : Position) (v : ℕ) (live :
   pub way_spare : (r : Option ℕ) → MatchOption r (way ≡ empty) (IsLeast way) → IfSome r (λ u. u ∉ raw.red)
   way_spare None nothing = tt
   way_spare (Some u) least = (in_way u least.member).1
-
--- the step that removes u
-abbrev pub removal_of : Debts → ℕ → Step
-removal_of debts u = cond (contains debts.stores u) (Spill u) (Drop u)
 
 cases : (b : Bool) (s t : Step) (P : Step → Type 0) → (b ≡ true → P s) → (b ≡ false → P t) → P (cond b s t)
 cases true s t P h k = h refl

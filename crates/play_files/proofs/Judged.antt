@@ -95,7 +95,7 @@ same_vertex g ms a b x y = x.why.vertex ∙ ap vertex_of (same_move g ms a b x y
 bad_is_none : (g : PebbleGame) (ms : List Move) (bad : BadMove) → IsFirstBad g ms bad → IsPebbling g (start g) ms → ⊥
 bad_is_none g ms bad is pebbling = no_rule_broken g _ is.move _ is.why.rule (move_of_pebbling g (start g) ms bad.at is.move is.is_there pebbling)
 
-one_least : (s : Vertices) (u v : ℕ) → IsLeast s u → IsLeast s v → u ≡ v
+pub one_least : (s : Vertices) (u v : ℕ) → IsLeast s u → IsLeast s v → u ≡ v
 one_least s u v a b = let below = a.least v b.member in let above = b.least u a.member in omega arith
 
 -- a first bad move makes one fault

@@ -5,3 +5,5 @@ pub mod Judged
 pub mod Moves
 pub mod Reader
 pub mod Decided
+pub mod Verdicts
+pub mod OnePlay

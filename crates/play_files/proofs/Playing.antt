@@ -3,18 +3,19 @@ use Rattle.std.proofs.Common.{◌≡◌, ℕ, suc, ◌+◌, ◌*◌, ◌≤◌, 
 use Rattle.std.proofs.lemmas.List.{drop_all}
 use Rattle.std.specs.Prelude.{Option, Some, None, IfNone, IsSome}
 use Rattle.std.specs.FinSet.{remove}
-use Rattle.comp_graph.specs.Vertices.{Vertices, ◌∉◌, IsWithin, size}
+use Rattle.comp_graph.specs.Vertices.{Vertices, ◌∉◌, IsLeast, size}
 use Rattle.comp_graph.specs.Sets.{membership}
 use Rattle.comp_graph.specs.Games.{PebbleGame, GameParts, AreWeights, game_of}
 use Rattle.comp_graph.proofs.Sets.{size_empty, size_remove}
 use Rattle.pebble_rules.specs.Rules.{start, IsMove, moved, move_cost, cost, IsPebbling, IsComplete, position_after, computed_by, computed}
 use Rattle.pebble_rules.specs.declared.moves.Move.{Move}
 use Rattle.pebble_rules.specs.declared.moves.Move.TheVariants.{Load, Store, Compute, DropRed, DropBlue}
-use Rattle.normal_steps.specs.Steps.{CanFinish, finish_cost, total_cost, CanDrop, work_vertices}
+use Rattle.normal_steps.specs.Steps.{CanFinish, finish_cost, total_cost, CanDrop, work_vertices, worked}
 use Rattle.normal_steps.specs.Subsequences.{IsSubsequence}
 use Rattle.normal_steps.specs.Plans.{PlanParts, IsPlan, IsNoPlan}
 use Rattle.normal_steps.specs.declared.step.Step.{Step}
 use Rattle.normal_steps.proofs.Simulation.{finish_paid, can_finish, computed_append, start_follows}
+use Rattle.play_files.specs.Followed.{MakesRoom, leaves, AreFollowed, AreStepsOf, IsFollowed, in_the_way, removed}
 use Rattle.play_files.specs.Tidying.{Following, AreTidied, first_following, IsFollowing, Answers, AnswersMove}
 use Rattle.play_files.proofs.Answering.{same_debts, then_answers}
 
@@ -26,6 +27,7 @@ pub record IsMakingRoom (g : PebbleGame) (v : ℕ) (before now : Following) : Ty
   pub answers : Answers g before.raw before now 0 []
   pub not_red : v ∉ now.normal.red
   pub not_owed : v ∉ now.debts.loads
+  pub keeps : (after : Following) → MakesRoom g v after now → MakesRoom g v after before
 
 pub room_begins : (g : PebbleGame) (v : ℕ) (f : Following) → IsFollowing g f → v ∉ f.normal.red → v ∉ f.debts.loads → IsMakingRoom g v f f
 room_begins g v f following not_red not_owed = record {
@@ -33,6 +35,7 @@ room_begins g v f following not_red not_owed = record {
   answers = same_debts g f.raw f f 0 [] refl refl refl following;
   not_red = not_red;
   not_owed = not_owed;
+  keeps = λ after more. more;
 }
 
 still_out : (s : Vertices) (u v : ℕ) → v ∉ s → v ∉ remove s u
@@ -43,12 +46,13 @@ room_follows g v before now making = subst (λ r. IsFollowing g (record now { ra
 
 pub room_goes_on : (g : PebbleGame) (v u : ℕ) (before now after : Following) → IsMakingRoom g v before now
     → after.raw ≡ now.raw → after.normal.red ≡ remove now.normal.red u → after.debts.loads ≡ now.debts.loads → Answers g now.raw now after 0 []
-    → IsMakingRoom g v before after
-room_goes_on g v u before now after making raw red loads answers = record {
+    → g.slots < size (worked g now.normal.red v) → IsLeast (in_the_way g now v) u → after ≡ removed g now u → IsMakingRoom g v before after
+room_goes_on g v u before now after making raw red loads answers full least is = record {
   raw = raw ∙ making.raw;
   answers = then_answers g before.raw before.raw before now after 0 0 0 [] [] [] making.answers (subst (λ r. Answers g r now after 0 []) making.raw answers) refl refl;
   not_red = subst (λ s. v ∉ s) (sym red) (still_out now.normal.red u v making.not_red);
   not_owed = subst (λ s. v ∉ s) (sym loads) making.not_owed;
+  keeps = λ last more. making.keeps last (leaves u full least (subst (MakesRoom g v last) is more));
 }
 
 pub room_answers : (g : PebbleGame) (v : ℕ) (before now after : Following) → IsMakingRoom g v before now → AnswersMove g (Compute v) now after → AnswersMove g (Compute v) before after
@@ -70,6 +74,7 @@ pub record IsOnTheWay (g : PebbleGame) (ms : List Move) (n : ℕ) (now : Followi
   pub ends : position_after now.raw (drop n ms) ≡ position_after (start g) ms
   pub costs : paid + cost g (drop n ms) ≡ cost g ms
   pub computes : vertices ++ computed (drop n ms) ≡ computed ms
+  pub goes_on : (after : Following) → AreFollowed g (drop n ms) now after → AreFollowed g ms (first_following g) after
 
 pub way_follows : (g : PebbleGame) (ms : List Move) (n : ℕ) (now : Following) → IsOnTheWay g ms n now → IsFollowing g now
 way_follows g ms n now way = way.answers.follows
@@ -83,6 +88,7 @@ way_begins g ms now pebbling e = subst (IsOnTheWay g ms 0) (sym e) (record {
   ends = refl;
   costs = omega arith;
   computes = refl;
+  goes_on = λ after rest. rest;
 })
 
 module _ (g : PebbleGame) (ms : List Move) (n : ℕ) (d : Move) (there : n < length ms) where
@@ -95,8 +101,8 @@ module _ (g : PebbleGame) (ms : List Move) (n : ℕ) (d : Move) (there : n < len
   pub way_is_move : (now : Following) → IsOnTheWay g ms n now → IsMove g now.raw next
   way_is_move now way = (subst (IsPebbling g now.raw) opened way.rest).0
 
-  pub way_goes_on : (now after : Following) → IsOnTheWay g ms n now → after.raw ≡ moved now.raw next → AnswersMove g next now after → IsOnTheWay g ms (n + 1) after
-  way_goes_on now after way raw answers = record {
+  pub way_goes_on : (now after : Following) → IsOnTheWay g ms n now → after.raw ≡ moved now.raw next → AnswersMove g next now after → IsFollowed g next now after → IsOnTheWay g ms (n + 1) after
+  way_goes_on now after way raw answers followed = record {
     paid = way.paid + move_cost g next;
     vertices = way.vertices ++ computed_by next [];
     answers = then_answers g now.raw after.raw (first_following g) now after way.paid (move_cost g next) (way.paid + move_cost g next)
@@ -110,9 +116,30 @@ module _ (g : PebbleGame) (ms : List Move) (n : ℕ) (d : Move) (there : n < len
         ∙ ap (λ vs. way.vertices ++ vs) (computed_append next (computed (drop (n + 1) ms)))
         ∙ sym (ap (λ rest. way.vertices ++ computed rest) opened)
         ∙ way.computes;
+    goes_on = λ last rest. way.goes_on last (subst (λ left. AreFollowed g left now last) (sym opened) (after, followed, rest));
   }
 
--- at the end the play can finish, and has not cost more
+-- ---- the end
+
+-- a play that answers a complete pebbling can finish, and has not cost more
+pub answered_is_tidied : (g : PebbleGame) (ms : List Move) (now : Following) → IsComplete g (start g) ms → Answers g (position_after (start g) ms) (first_following g) now (cost g ms) (computed ms)
+    → AreTidied g ms now.steps
+answered_is_tidied g ms now complete answers = subst (AreTidied g ms) (sym answers.grown) (record {
+  finishing = record {
+    play = answers.play;
+    finishes = subst (CanFinish g) answers.leads (can_finish g (position_after (start g) ms) now.normal now.debts answers.follows complete.outputs_blue);
+  };
+  costs =
+      let finish = finish_paid g (position_after (start g) ms) now.normal now.debts answers.follows complete.outputs_blue in
+      let at = ap (finish_cost g) answers.leads in
+      let costs = answers.costs in
+      let stores = ap (λ n. g.store * n) size_empty in
+      let loads = ap (λ n. g.load * n) size_empty in
+      omega arith;
+  works = answers.works;
+})
+
+-- so does the play that follows all moves
 module _ (g : PebbleGame) (ms : List Move) (n : ℕ) (now : Following) (complete : IsComplete g (start g) ms) (all : length ms ≤ n) (way : IsOnTheWay g ms n now) where
   nothing_left : drop n ms ≡ []
   nothing_left = drop_all n ms all
@@ -120,34 +147,21 @@ module _ (g : PebbleGame) (ms : List Move) (n : ℕ) (now : Following) (complete
   at_end : now.raw ≡ position_after (start g) ms
   at_end = sym (ap (position_after now.raw) nothing_left) ∙ way.ends
 
-  done : IsWithin g.dag.outputs now.raw.blue
-  done = subst (λ p. IsWithin g.dag.outputs p.blue) (sym at_end) complete.outputs_blue
-
   paid_all : way.paid ≡ cost g ms
   paid_all = let e = ap (cost g) nothing_left in let old = way.costs in omega arith
 
   computes_all : way.vertices ≡ computed ms
   computes_all = sym (append-nil way.vertices) ∙ sym (ap (λ rest. way.vertices ++ computed rest) nothing_left) ∙ way.computes
 
-  steps_are_tidied : AreTidied g ms way.answers.more
-  steps_are_tidied = record {
-    finishing = record {
-      play = way.answers.play;
-      finishes = subst (CanFinish g) way.answers.leads (can_finish g now.raw now.normal now.debts way.answers.follows done);
-    };
-    costs =
-        let finish = finish_paid g now.raw now.normal now.debts way.answers.follows done in
-        let at = ap (finish_cost g) way.answers.leads in
-        let costs = way.answers.costs in
-        let stores = ap (λ n. g.store * n) size_empty in
-        let loads = ap (λ n. g.load * n) size_empty in
-        let sum = paid_all in
-        omega arith;
-    works = subst (IsSubsequence (work_vertices way.answers.more)) computes_all way.answers.works;
-  }
+  pub way_steps : AreStepsOf g ms now.steps
+  way_steps = (now, way.goes_on now (subst (λ left. AreFollowed g left now now) (sym nothing_left) refl), refl)
 
   pub way_ends : AreTidied g ms now.steps
-  way_ends = subst (AreTidied g ms) (sym way.answers.grown) steps_are_tidied
+  way_ends =
+      answered_is_tidied g ms now complete
+      (subst (λ p. Answers g p (first_following g) now (cost g ms) (computed ms)) at_end
+      (subst (λ paid. Answers g now.raw (first_following g) now paid (computed ms)) paid_all
+      (subst (λ vs. Answers g now.raw (first_following g) now way.paid vs) computes_all way.answers)))
 
 -- ---- the plan
 

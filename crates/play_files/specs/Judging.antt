@@ -1,6 +1,7 @@
 -- Why a list of moves is no complete pebbling: its first bad move, or the least output that is not blue at its end.
-use Rattle.std.specs.Prelude.{◌≡◌, List}
+use Rattle.std.specs.Prelude.{◌≡◌, ◌⊎◌, List}
 use Rattle.std.specs.FinSet as set
+use Rattle.comp_graph.specs.Dags.{IsDag}
 use Rattle.comp_graph.specs.Vertices.{IsLeast}
 use Rattle.comp_graph.specs.Games.{PebbleGame}
 use Rattle.pebble_rules.specs.Rules.{start, IsPebbling, IsComplete, position_after}
@@ -23,3 +24,7 @@ FaultsAreOfNoPebbling = (g : PebbleGame) (ms : List Move) (fault : PlayFault) �
 -- a list of moves has one fault at most
 abbrev pub OneFault : Type 0
 OneFault = (g : PebbleGame) (ms : List Move) (fault other : PlayFault) → IsPlayFault g ms fault → IsPlayFault g ms other → fault ≡ other
+
+-- each list of moves is a complete pebbling or has a fault
+abbrev pub CompleteOrFaulty : Type 0
+CompleteOrFaulty = (g : PebbleGame) → IsDag g.dag → (ms : List Move) → IsComplete g (start g) ms ⊎ ((fault : PlayFault) × IsPlayFault g ms fault)

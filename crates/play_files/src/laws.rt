@@ -1,11 +1,13 @@
 //! Laws over all games, lists of moves and texts. A call does nothing: its contract is the law.
-ghost use Rattle.play_files.specs.Judging.{FaultsAreOfNoPebbling, OneFault};
+ghost use Rattle.play_files.specs.Followed.{EachIsFollowed, OnePlay};
+ghost use Rattle.play_files.specs.Judging.{CompleteOrFaulty, FaultsAreOfNoPebbling, OneFault};
 ghost use Rattle.play_files.specs.Laws.{AlwaysOne, NeverBoth, NoPrefix, OneBadLine, OneReading, PlaysAreShort, ReadsBack};
 
-/// A list of moves has one fault at most, and where it has one it is no complete pebbling.
+/// A list of moves has one fault at most, where it has one it is no complete pebbling, and where it has none it is one.
 pub fn one_verdict()
     ensures none { FaultsAreOfNoPebbling }
     ensures one { OneFault }
+    ensures always { CompleteOrFaulty }
 {}
 
 /// Moves have a text, which reads as these moves and is no prefix of another's.
@@ -22,4 +24,11 @@ pub fn one_answer()
     ensures apart { NeverBoth }
     ensures always_one { AlwaysOne }
     ensures short { PlaysAreShort }
+{}
+
+/// A list of moves has at most one play that follows it, so `tidy` answers one plan. A complete pebbling has one, which finishes and costs no
+/// more.
+pub fn one_play()
+    ensures one { OnePlay }
+    ensures always { EachIsFollowed }
 {}
