@@ -2,13 +2,15 @@
 ghost use Rattle.std.specs.Prelude.{◌≡◌, ◌≢◌, ◌≤◌, ℕ, List, IfOk, Some};
 ghost use Rattle.std.specs.declared.option.Option.{Option};
 ghost use Rattle.desk_io.specs.Known.{file_items};
-ghost use Rattle.pebble_cli.specs.declared.status.Status.{Status};
+ghost use Rattle.command_answers.specs.declared.status.Status.{Status};
 ghost use Rattle.pebble_cli.specs.Answers.{Answers};
 ghost use Rattle.pebble_cli.specs.Deliver.{file_after};
-ghost use Rattle.pebble_cli.specs.Words.{asked_by};
+ghost use Rattle.command_words.specs.Words.{asked_by};
 
+use command_answers::Status;
+use command_words::file_word;
 use desk_io::{Fail, MemoryDesk};
-use pebble_cli::{Status, file_word, pebble};
+use pebble_cli::pebble;
 use std::alloc::{AllocError, Global};
 
 /// What a run leaves: its status, the output, and the file.

@@ -1,8 +1,10 @@
 //! The program `pebble`: the words of the command line, over standard input, standard output and one file.
 #![tactic(auto)]
 
+use command_answers::Status;
+use command_words::file_word;
 use desk_io::RealDesk;
-use pebble_cli::{Status, file_word, pebble};
+use pebble_cli::pebble;
 use std::process::ExitCode;
 use std::rt::Env;
 use std::{env, io};

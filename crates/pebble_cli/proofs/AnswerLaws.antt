@@ -5,32 +5,37 @@ use Rattle.comp_graph.specs.Dags.{degree}
 use Rattle.comp_graph.specs.Graphs.{GraphParts, dag_of}
 use Rattle.kernel_ast.specs.KernelParts.{KernelParts}
 use Rattle.kernel_gen.specs.Trials.{trial_kernel}
-use Rattle.pebble_cli.specs.declared.commands.Command.{Command}
-use Rattle.pebble_cli.specs.declared.commands.Command.TheVariants.{Plan, Check, Run, Exec, Graph, Trial}
-use Rattle.pebble_cli.specs.declared.commands.Subject.{Subject}
-use Rattle.pebble_cli.specs.declared.commands.Subject.TheVariants.{InputKernel, InputCode, TrialKernel}
-use Rattle.pebble_cli.specs.declared.status.Status.{Status}
-use Rattle.pebble_cli.specs.declared.status.Status.TheVariants.{Usage, Kernel, TooSmall, ReadFault, WriteFault, NoMemory, Code}
-use Rattle.pebble_cli.specs.Accepted.{IsAccepted, IsKernelFault}
+use Rattle.command_words.specs.declared.commands.Command.{Command}
+use Rattle.command_words.specs.declared.commands.Command.TheVariants.{Plan, Check, Run, Exec, Graph, Trial, Cover, CoverCheck, Parts, Judge, Tidy, Cache}
+use Rattle.command_words.specs.declared.commands.Subject.{Subject}
+use Rattle.command_words.specs.declared.commands.Subject.TheVariants.{InputKernel, InputCode, TrialKernel}
+use Rattle.command_answers.specs.declared.status.Status.{Status}
+use Rattle.command_answers.specs.declared.status.Status.TheVariants.{Usage, Kernel, TooSmall, ReadFault, WriteFault, NoMemory, Code}
+use Rattle.command_answers.specs.Accepted.{IsAccepted, IsKernelFault}
 use Rattle.pebble_cli.specs.Answers.{Answers, usage, faulty_kernel, no_code, too_few_slots, last_answer, LastAnswers, IsAdmitted, kernel_with_room, code_input, HasRoom}
 use Rattle.pebble_cli.specs.AnswerLaws.{OneAnswer, SomeAnswer, NoFaultIsAnAnswer, TablesAreOfWriters, UsageOnly, UsageAlways, KernelOnly, KernelAlways, CodeOnly, CodeAlways, TooSmallOnly, TooSmallAlways, LastOnly, LastAlways}
-use Rattle.pebble_cli.specs.CodeInputs.{IsCodeFault, IsNoCode, code_fault_text}
-use Rattle.pebble_cli.specs.Commands.{subject, slots_of, kernel_text, reads_file, writes_file}
+use Rattle.command_answers.specs.CodeInputs.{IsCodeFault, IsNoCode, code_fault_text}
+use Rattle.command_words.specs.Commands.{subject, slots_of, reads_file, writes_file}
+use Rattle.command_answers.specs.Subjects.{kernel_text}
 use Rattle.pebble_cli.specs.Faults.{IsFileTold}
-use Rattle.pebble_cli.specs.Refusals.{IsUsage, IsFaulty, IsTooSmall, usage_text, kernel_fault_text, too_small_text}
-use Rattle.pebble_cli.specs.Status.{is_last}
-use Rattle.pebble_cli.specs.Words.{command, IsInLimits}
-use Rattle.pebble_cli.proofs.Accepting.{accepted_once, accepted_or_fault, no_fault_of_accepted}
+use Rattle.command_answers.specs.Refusals.{IsUsage, IsFaulty, IsTooSmall, usage_text, kernel_fault_text, too_small_text}
+use Rattle.command_answers.specs.Status.{is_last}
+use Rattle.command_words.specs.Words.{command, IsInLimits}
+use Rattle.command_answers.proofs.Accepting.{accepted_once, accepted_or_fault, no_fault_of_accepted, one_kernel_fault}
+use Rattle.pebble_cli.proofs.CacheKept.{cache_kept}
 use Rattle.pebble_cli.proofs.CheckKept.{check_kept}
-use Rattle.pebble_cli.proofs.CodeInputs.{no_fault_of_code, code_or_fault}
+use Rattle.pebble_cli.proofs.CoverKept.{cover_kept, cover_check_kept}
+use Rattle.command_answers.proofs.CodeInputs.{no_fault_of_code, code_or_fault, one_code_fault}
 use Rattle.pebble_cli.proofs.ExecKept.{exec_kept}
 use Rattle.pebble_cli.proofs.GraphKept.{graph_kept}
-use Rattle.pebble_cli.proofs.LastAnswers.{HasLast, AreKept}
+use Rattle.pebble_cli.proofs.LastAnswers.{HasLast, AreKept, AreOne}
 use Rattle.pebble_cli.proofs.PlanKept.{plan_kept}
-use Rattle.pebble_cli.proofs.FirstPlans.{is_too_small}
+use Rattle.command_answers.proofs.FirstPlans.{is_too_small}
 use Rattle.pebble_cli.proofs.RunKept.{run_kept}
+use Rattle.pebble_cli.proofs.PartsKept.{parts_kept}
+use Rattle.pebble_cli.proofs.PlaysKept.{judge_kept, tidy_kept}
 use Rattle.pebble_cli.proofs.TrialKept.{trial_kept}
-use Rattle.pebble_cli.proofs.WordLimits.{words_are_in_limits}
+use Rattle.command_words.proofs.WordLimits.{words_are_in_limits}
 
 -- what is shown of the last answers of each command
 pub last_kept : (asked : Command) → AreKept asked
@@ -40,6 +45,12 @@ last_kept Run = run_kept
 last_kept Exec = exec_kept
 last_kept Graph = graph_kept
 last_kept (Trial asked) = trial_kept asked
+last_kept (Cover asked) = cover_kept asked
+last_kept (CoverCheck slots) = cover_check_kept slots
+last_kept (Parts asked) = parts_kept asked
+last_kept (Judge slots) = judge_kept slots
+last_kept (Tidy slots) = tidy_kept slots
+last_kept (Cache asked) = cache_kept asked
 
 -- ---- the answers of one command
 
@@ -113,8 +124,12 @@ few_has_no_fault asked input text other code at kernel graph is other_is fault a
 -- ---- what is answered where a cause is met
 
 to_fault : (asked : Command) (input text : List ℕ) (file : Option (Option (List ℕ))) (code at : ℕ) (status : Status) (printed : List ℕ) (table : Option (List ℕ))
-    → kernel_text (subject asked) input ≡ Some text → IsKernelFault text code at → Kinds asked input file status printed table → status ≡ Kernel
-to_fault asked input text file code at status printed table is fault (faulty other other_is k) = k.ends
+    → kernel_text (subject asked) input ≡ Some text → IsKernelFault text code at → Kinds asked input file status printed table
+    → AreOne status Kernel printed (kernel_fault_text code at) table None
+to_fault asked input text file code at status printed table is fault (faulty other other_is k) =
+    let same = one_kernel_fault text k.code code k.at at (subst (λ t. IsKernelFault t k.code k.at) (one_text is other_is) k.fault) fault in
+    let line : kernel_fault_text k.code k.at ≡ kernel_fault_text code at = λ i. kernel_fault_text (same.0 i) (same.1 i) in
+    (k.ends, k.line ∙ line, k.none)
 to_fault asked input text file code at status printed table is fault (not_code other_is k) = no_kernel (subject asked) input text other_is is
 to_fault asked input text file code at status printed table is fault (small other slots other_is has k) =
     absurd (few_has_no_fault asked input text other code at k.kernel k.graph is other_is fault k.accepted)
@@ -122,20 +137,23 @@ to_fault asked input text file code at status printed table is fault (last k) =
     absurd (fault_refuses asked input text code at is fault ((last_kept asked).each input file status printed table k).admitted)
 
 to_code : (asked : Command) (input : List ℕ) (file : Option (Option (List ℕ))) (line : ℕ) (status : Status) (printed : List ℕ) (table : Option (List ℕ))
-    → subject asked ≡ InputCode → IsCodeFault input line → Kinds asked input file status printed table → status ≡ Code
+    → subject asked ≡ InputCode → IsCodeFault input line → Kinds asked input file status printed table → AreOne status Code printed (code_fault_text line) table None
 to_code asked input file line status printed table is fault (faulty text other_is k) = no_kernel (subject asked) input text is other_is
-to_code asked input file line status printed table is fault (not_code other_is k) = k.ends
+to_code asked input file line status printed table is fault (not_code other_is k) =
+    (k.ends, k.line ∙ ap code_fault_text (one_code_fault input k.at line k.fault fault), k.none)
 to_code asked input file line status printed table is fault (small text slots other_is has k) = no_kernel (subject asked) input text is other_is
 to_code asked input file line status printed table is fault (last k) =
     absurd (code_refuses asked input line is fault ((last_kept asked).each input file status printed table k).admitted)
 
 to_small : (asked : Command) (input text : List ℕ) (file : Option (Option (List ℕ))) (slots : ℕ) (kernel : KernelParts) (graph : GraphParts) (status : Status) (printed : List ℕ) (table : Option (List ℕ))
     → kernel_text (subject asked) input ≡ Some text → slots_of asked ≡ Some slots → IsAccepted text kernel graph → slots ≤ degree (dag_of graph)
-    → Kinds asked input file status printed table → status ≡ TooSmall
+    → Kinds asked input file status printed table → AreOne status TooSmall printed (too_small_text (degree (dag_of graph) + 1)) table None
 to_small asked input text file slots kernel graph status printed table is has accepted few (faulty other other_is k) =
     absurd (few_has_no_fault asked input other text k.code k.at kernel graph other_is is k.fault accepted)
 to_small asked input text file slots kernel graph status printed table is has accepted few (not_code other_is k) = no_kernel (subject asked) input text other_is is
-to_small asked input text file slots kernel graph status printed table is has accepted few (small other others other_is others_has k) = k.ends
+to_small asked input text file slots kernel graph status printed table is has accepted few (small other others other_is others_has k) =
+    let same = one_degree text k.kernel kernel k.graph graph (subst (λ t. IsAccepted t k.kernel k.graph) (one_text is other_is) k.accepted) accepted in
+    (k.ends, k.line ∙ ap (λ d. too_small_text (d + 1)) same, k.none)
 to_small asked input text file slots kernel graph status printed table is has accepted few (last k) =
     absurd (few_refuse asked input text slots kernel graph is has accepted few ((last_kept asked).each input file status printed table k).admitted)
 
@@ -148,12 +166,16 @@ to_last asked input file status printed table admitted (last k) = k
 
 -- ---- one answer
 
+-- two answers that are one with a third
+meet : {s t x : Status} {p q y : List ℕ} {a b z : Option (List ℕ)} → s ≡ x → p ≡ y → a ≡ z → AreOne t x q y b z → AreOne s t p q a b
+meet ends line table other = (ends ∙ sym other.0, line ∙ sym other.1, table ∙ sym other.2)
+
 one_kind : (asked : Command) (input : List ℕ) (file : Option (Option (List ℕ))) (s t : Status) (p q : List ℕ) (a b : Option (List ℕ)) → (is_last s ≡ true → IsFileTold (Some asked) file)
-    → Kinds asked input file s p a → Kinds asked input file t q b → s ≡ t
-one_kind asked input file s t p q a b told (faulty text is k) other = k.ends ∙ sym (to_fault asked input text file k.code k.at t q b is k.fault other)
-one_kind asked input file s t p q a b told (not_code is k) other = k.ends ∙ sym (to_code asked input file k.at t q b is k.fault other)
+    → Kinds asked input file s p a → Kinds asked input file t q b → AreOne s t p q a b
+one_kind asked input file s t p q a b told (faulty text is k) other = meet k.ends k.line k.none (to_fault asked input text file k.code k.at t q b is k.fault other)
+one_kind asked input file s t p q a b told (not_code is k) other = meet k.ends k.line k.none (to_code asked input file k.at t q b is k.fault other)
 one_kind asked input file s t p q a b told (small text slots is has k) other =
-    k.ends ∙ sym (to_small asked input text file slots k.kernel k.graph t q b is has k.accepted k.small other)
+    meet k.ends k.line k.none (to_small asked input text file slots k.kernel k.graph t q b is has k.accepted k.small other)
 one_kind asked input file s t p q a b told (last k) other =
     let kept = (last_kept asked).each input file s p a k in
     (last_kept asked).once input file s t p q a b (told kept.last) k (to_last asked input file t q b kept.admitted other)
@@ -168,8 +190,11 @@ to_usage is (too_few_slots other text slots other_is e has k) = absurd (cc)
 to_usage is (last_answer other other_is k) = absurd (cc)
 
 by_command : (command found : Option Command) (input : List ℕ) (file : Option (Option (List ℕ))) (s t : Status) (p q : List ℕ) (a b : Option (List ℕ)) → command ≡ found
-    → (is_last s ≡ true → IsFileTold found file) → Answers command input file s p a → Answers command input file t q b → s ≡ t
-by_command command None input file s t p q a b is told h k = (to_usage is h).ends ∙ sym (to_usage is k).ends
+    → (is_last s ≡ true → IsFileTold found file) → Answers command input file s p a → Answers command input file t q b → AreOne s t p q a b
+by_command command None input file s t p q a b is told h k =
+    let here = to_usage is h in
+    let there = to_usage is k in
+    meet here.ends here.line here.none (there.ends, there.line, there.none)
 by_command command (Some asked) input file s t p q a b is told h k = one_kind asked input file s t p q a b told (kind_of asked is h) (kind_of asked is k)
 
 pub one_answer : OneAnswer
@@ -236,6 +261,12 @@ some_slots Run slots limits has = absurd (cc)
 some_slots Exec slots limits has = absurd (cc)
 some_slots Graph slots limits has = absurd (cc)
 some_slots (Trial asked) slots limits has = let same : asked.slots ≡ slots = cc in omega (arith, limits.1.0, same)
+some_slots (Cover asked) slots limits has = let same : asked.slots ≡ slots = cc in omega (arith, limits.0, same)
+some_slots (CoverCheck count) slots limits has = let same : count ≡ slots = cc in omega (arith, limits.0, same)
+some_slots (Parts asked) slots limits has = let same : asked.slots ≡ slots = cc in omega (arith, limits.0, same)
+some_slots (Judge count) slots limits has = let same : count ≡ slots = cc in omega (arith, limits.0, same)
+some_slots (Tidy count) slots limits has = let same : count ≡ slots = cc in omega (arith, limits.0, same)
+some_slots (Cache asked) slots limits has = let same : asked.slots ≡ slots = cc in omega (arith, limits.0, same)
 
 pub too_small_always : TooSmallAlways
 too_small_always asked input text file slots kernel graph limits is has accepted few =
@@ -304,43 +335,51 @@ HasAnswer command input file = (status : Status) × (printed : List ℕ) × (tab
 from_last : (asked : Command) (input : List ℕ) (file : Option (Option (List ℕ))) → HasLast asked input file → HasAnswer (Some asked) input file
 from_last asked input file h = (h.status, h.printed, h.table, last_answer asked refl h.answer)
 
+-- a file that is missing is not read: nothing refuses the input only where the file is there
+abbrev IsThere : Command → List ℕ → Option (Option (List ℕ)) → Type 0
+IsThere asked input file = IsAdmitted asked input → reads_file (Some asked) ≡ true → file ≡ Some None → ⊥
+
+from_admitted : (asked : Command) (input : List ℕ) (file : Option (Option (List ℕ))) → IsInLimits asked → IsThere asked input file → IsAdmitted asked input
+    → HasAnswer (Some asked) input file
+from_admitted asked input file limits there admitted = from_last asked input file ((last_kept asked).some input file limits (there admitted) admitted)
+
 by_slots : (asked : Command) (input text : List ℕ) (file : Option (Option (List ℕ))) (kernel : KernelParts) (graph : GraphParts) (slots : Option ℕ) → IsInLimits asked
-    → (reads_file (Some asked) ≡ true → file ≡ Some None → ⊥) → kernel_text (subject asked) input ≡ Some text → IsAccepted text kernel graph → slots_of asked ≡ slots
+    → IsThere asked input file → kernel_text (subject asked) input ≡ Some text → IsAccepted text kernel graph → slots_of asked ≡ slots
     → HasAnswer (Some asked) input file
 by_slots asked input text file kernel graph None limits there is accepted has =
     let room : HasRoom (slots_of asked) text = record { kernel = kernel; graph = graph; accepted = accepted; room = λ count e. absurd (cc) } in
-    from_last asked input file ((last_kept asked).some input file limits there (kernel_with_room text is room))
+    from_admitted asked input file limits there (kernel_with_room text is room)
 by_slots asked input text file kernel graph (Some slots) limits there is accepted has = elim (cases_lt (degree (dag_of graph)) slots) [
   | inl room ↦
       let admitted : HasRoom (slots_of asked) text = record { kernel = kernel; graph = graph; accepted = accepted; room = λ count e. (let same : slots ≡ count = cc in omega (arith, room, same)) } in
-      from_last asked input file ((last_kept asked).some input file limits there (kernel_with_room text is admitted))
+      from_admitted asked input file limits there (kernel_with_room text is admitted)
   | inr few ↦ (TooSmall, too_small_text (degree (dag_of graph) + 1), None, too_small_always asked input text file slots kernel graph limits is has accepted (omega (arith, few)))
 ]
 
-by_text : (asked : Command) (input text : List ℕ) (file : Option (Option (List ℕ))) → IsInLimits asked → (reads_file (Some asked) ≡ true → file ≡ Some None → ⊥)
+by_text : (asked : Command) (input text : List ℕ) (file : Option (Option (List ℕ))) → IsInLimits asked → IsThere asked input file
     → kernel_text (subject asked) input ≡ Some text → HasAnswer (Some asked) input file
 by_text asked input text file limits there is = elim (accepted_or_fault text) [
   | inl a ↦ by_slots asked input text file a.0 a.1 (slots_of asked) limits there is a.2 refl
   | inr f ↦ (Kernel, kernel_fault_text f.0 f.1, None, kernel_always asked input text file f.0 f.1 is f.2)
 ]
 
-by_code : (asked : Command) (input : List ℕ) (file : Option (Option (List ℕ))) → IsInLimits asked → (reads_file (Some asked) ≡ true → file ≡ Some None → ⊥)
+by_code : (asked : Command) (input : List ℕ) (file : Option (Option (List ℕ))) → IsInLimits asked → IsThere asked input file
     → subject asked ≡ InputCode → HasAnswer (Some asked) input file
 by_code asked input file limits there is = elim (code_or_fault input) [
-  | inl c ↦ from_last asked input file ((last_kept asked).some input file limits there (code_input c.0 is c.1))
+  | inl c ↦ from_admitted asked input file limits there (code_input c.0 is c.1)
   | inr f ↦ (Code, code_fault_text f.0, None, code_always asked input file f.0 is f.1)
 ]
 
-by_subject : (asked : Command) (input : List ℕ) (file : Option (Option (List ℕ))) (s : Subject) → IsInLimits asked → (reads_file (Some asked) ≡ true → file ≡ Some None → ⊥)
+by_subject : (asked : Command) (input : List ℕ) (file : Option (Option (List ℕ))) (s : Subject) → IsInLimits asked → IsThere asked input file
     → subject asked ≡ s → HasAnswer (Some asked) input file
 by_subject asked input file InputKernel limits there is = by_text asked input input file limits there (ap (λ s. kernel_text s input) is)
 by_subject asked input file InputCode limits there is = by_code asked input file limits there is
 by_subject asked input file (TrialKernel statements) limits there is = by_text asked input (trial_kernel statements) file limits there (ap (λ s. kernel_text s input) is)
 
 by_words : (found : Option Command) (input : List ℕ) (file : Option (Option (List ℕ))) → ((asked : Command) → found ≡ Some asked → IsInLimits asked)
-    → (reads_file found ≡ true → file ≡ Some None → ⊥) → HasAnswer found input file
+    → ((asked : Command) → found ≡ Some asked → IsThere asked input file) → HasAnswer found input file
 by_words None input file limits there = (Usage, usage_text, None, usage_always input file)
-by_words (Some asked) input file limits there = by_subject asked input file (subject asked) (limits asked refl) there refl
+by_words (Some asked) input file limits there = by_subject asked input file (subject asked) (limits asked refl) (there asked refl) refl
 
 pub some_answer : SomeAnswer
 some_answer words input file there = by_words (command words) input file (words_are_in_limits words) there

@@ -10,27 +10,25 @@ use Rattle.cert_checker.proofs.Checked.{refused_is_no_table}
 use Rattle.cert_checker.proofs.Decided.{table_or_refusal}
 use Rattle.cert_checker.proofs.OneRefusal.{refusal_is_one}
 use Rattle.desk_io.specs.Known.{TellsFile}
-use Rattle.forced_bounds.proofs.Below.{floor_is_below_plays}
 use Rattle.kernel_ast.specs.KernelParts.{KernelParts}
-use Rattle.normal_steps.proofs.Simulation.{plays_from_start_cost_no_more}
 use Rattle.potential_cert.specs.GameTables.{IsTableOf}
 use Rattle.potential_cert.specs.Table.{TableParts}
-use Rattle.potential_cert.proofs.Bound.{bound_is_below_pebblings}
 use Rattle.potential_cert.proofs.OneSpelling.{spelling_is_one}
 use Rattle.potential_cert.proofs.Readable.{spelled_or_not}
-use Rattle.pebble_cli.specs.declared.commands.Checking.{Checking}
-use Rattle.pebble_cli.specs.declared.commands.Command.TheVariants.{Check}
-use Rattle.pebble_cli.specs.declared.status.Status.{Status}
-use Rattle.pebble_cli.specs.declared.status.Status.TheVariants.{Done, Refused}
-use Rattle.pebble_cli.specs.Accepted.{IsAccepted}
+use Rattle.command_words.specs.declared.commands.Checking.{Checking}
+use Rattle.command_words.specs.declared.commands.Command.TheVariants.{Check}
+use Rattle.command_answers.specs.declared.status.Status.{Status}
+use Rattle.command_answers.specs.declared.status.Status.TheVariants.{Done, Refused}
+use Rattle.command_answers.specs.Accepted.{IsAccepted}
 use Rattle.pebble_cli.specs.Answers.{IsAdmitted, kernel_with_room, code_input}
-use Rattle.pebble_cli.specs.CheckAnswers.{Checks, IsCertificate, IsCertified, IsRefused, IsTableFile, accepted_text, broken, no_table, refused_text}
+use Rattle.command_answers.specs.CheckAnswers.{Checks, IsCertificate, IsCertified, IsRefused, IsRefusedFile, IsTableFile, accepted_text, broken, no_table, refused_text}
 use Rattle.pebble_cli.specs.CheckLaws.{CertifiedOrRefused}
-use Rattle.pebble_cli.specs.PlayedGames.{played_on}
-use Rattle.pebble_cli.specs.Status.{is_last}
-use Rattle.pebble_cli.proofs.Accepting.{accepted_graph, accepted_once}
-use Rattle.pebble_cli.proofs.LastAnswers.{IsKept, HasLast, AreKept}
-use Rattle.pebble_cli.proofs.ToldBytes.{bytes_of, not_missing, told_bytes}
+use Rattle.command_answers.specs.PlayedGames.{played_on}
+use Rattle.command_answers.specs.Status.{is_last}
+use Rattle.command_answers.proofs.Accepting.{accepted_graph, accepted_once}
+use Rattle.pebble_cli.proofs.LastAnswers.{IsKept, HasLast, AreKept, AreOne}
+use Rattle.command_answers.proofs.TableFiles.{is_certified}
+use Rattle.command_answers.proofs.ToldBytes.{bytes_of, not_missing, told_bytes}
 
 -- more slots than the degree
 room_for : (slots : ℕ) (graph : GraphParts) → degree (dag_of graph) < slots → (count : ℕ) → Some slots ≡ Some count → degree (dag_of graph) < count
@@ -87,9 +85,26 @@ pub moved : (P : PebbleGame → List ℕ → Type 0) (asked : Checking) (text : 
 moved P asked text k j g h bytes held a b same holds =
     subst (λ x. P (played_on h asked.slots asked.weights) x) same (subst (λ x. P (played_on x asked.slots asked.weights) bytes) (accepted_once text k j g h a b).1 holds)
 
+-- a file has one certificate, whose bound is printed
+one_bound : (asked : Checking) (text : List ℕ) (file : Option (Option (List ℕ))) (held : Option (List ℕ)) (s t : Status) (p q : List ℕ) (a b : Option (List ℕ))
+    → file ≡ Some held → IsCertified asked text file s p a → IsCertified asked text file t q b → AreOne s t p q a b
+one_bound asked text file held s t p q a b told h k =
+    let here = moved (λ g bytes. IsCertificate g bytes h.certificate) asked text h.kernel k.kernel h.graph k.graph h.bytes k.bytes h.accepted k.accepted (told_bytes file held h.bytes k.bytes told h.held k.held) h.certifies in
+    let same : h.certificate ≡ k.certificate = one_certificate (played_on k.graph asked.slots asked.weights) k.bytes h.certificate k.certificate here k.certifies in
+    (h.ends ∙ sym k.ends, h.line ∙ ap (λ (c : TableParts). accepted_text c.bound) same ∙ sym k.line, h.none ∙ sym k.none)
+
+-- or is refused for one reason, which is printed
+one_reason : (asked : Checking) (text : List ℕ) (file : Option (Option (List ℕ))) (held : Option (List ℕ)) (s t : Status) (p q : List ℕ) (a b : Option (List ℕ))
+    → file ≡ Some held → IsRefusedFile asked text file s p a → IsRefusedFile asked text file t q b → AreOne s t p q a b
+one_reason asked text file held s t p q a b told h k =
+    let here = moved (λ g bytes. IsRefused g bytes h.reason h.row) asked text h.kernel k.kernel h.graph k.graph h.bytes k.bytes h.accepted k.accepted (told_bytes file held h.bytes k.bytes told h.held k.held) h.refused in
+    let same = one_refusal (played_on k.graph asked.slots asked.weights) k.bytes h.reason k.reason h.row k.row here k.refused in
+    let line : refused_text h.reason h.row ≡ refused_text k.reason k.row = λ i. refused_text (same.0 i) (same.1 i) in
+    (h.ends ∙ sym k.ends, h.line ∙ line ∙ sym k.line, h.none ∙ sym k.none)
+
 once : (asked : Checking) (text : List ℕ) (file : Option (Option (List ℕ))) (held : Option (List ℕ)) (s t : Status) (p q : List ℕ) (a b : Option (List ℕ))
-    → file ≡ Some held → Checks asked text file s p a → Checks asked text file t q b → s ≡ t
-once asked text file held s t p q a b told (inl h) (inl k) = h.ends ∙ sym k.ends
+    → file ≡ Some held → Checks asked text file s p a → Checks asked text file t q b → AreOne s t p q a b
+once asked text file held s t p q a b told (inl h) (inl k) = one_bound asked text file held s t p q a b told h k
 once asked text file held s t p q a b told (inl h) (inr k) =
     certified_or_not (played_on k.graph asked.slots asked.weights) k.bytes h.certificate k.reason k.row
     (moved (λ g bytes. IsCertificate g bytes h.certificate) asked text h.kernel k.kernel h.graph k.graph h.bytes k.bytes h.accepted k.accepted (told_bytes file held h.bytes k.bytes told h.held k.held) h.certifies)
@@ -98,7 +113,7 @@ once asked text file held s t p q a b told (inr h) (inl k) =
     certified_or_not (played_on h.graph asked.slots asked.weights) h.bytes k.certificate h.reason h.row
     (moved (λ g bytes. IsCertificate g bytes k.certificate) asked text k.kernel h.kernel k.graph h.graph k.bytes h.bytes k.accepted h.accepted (told_bytes file held k.bytes h.bytes told k.held h.held) k.certifies)
     h.refused
-once asked text file held s t p q a b told (inr h) (inr k) = h.ends ∙ sym k.ends
+once asked text file held s t p q a b told (inr h) (inr k) = one_reason asked text file held s t p q a b told h k
 
 -- ---- there is an answer
 
@@ -120,25 +135,6 @@ certified_or_refused g dag bytes = elim (cases_lt 20000000 (length bytes)) [
     | inr none ↦ inr (1, 0, no_table (λ t file. none t file.spelled) refl refl)
   ]
 ]
-
--- the bound of a table file of the game is at most the cost of each complete pebbling
-pub is_certified : (asked : Checking) (text : List ℕ) (file : Option (Option (List ℕ))) (kernel : KernelParts) (graph : GraphParts) (bytes : List ℕ) (t : TableParts)
-    (status : Status) (printed : List ℕ) (table : Option (List ℕ)) → status ≡ Done → printed ≡ accepted_text t.bound → table ≡ None → IsCertificate (played_on graph asked.slots asked.weights) bytes t
-    → degree (dag_of graph) < asked.slots → IsAccepted text kernel graph → TellsFile file bytes → IsCertified asked text file status printed table
-is_certified asked text file kernel graph bytes t status printed table is line none certifies room accepted held = record {
-  kernel = kernel;
-  graph = graph;
-  accepted = accepted;
-  room = room;
-  bytes = bytes;
-  held = held;
-  certificate = t;
-  certifies = certifies;
-  lowest = bound_is_below_pebblings floor_is_below_plays plays_from_start_cost_no_more (played_on graph asked.slots asked.weights) (IsDag-dag_of graph (accepted_graph accepted)) t.rows t.bound certifies.of_game.valid;
-  ends = is;
-  line = line;
-  none = none;
-}
 
 answer_by : (asked : Checking) (input bytes : List ℕ) (file : Option (Option (List ℕ))) (kernel : KernelParts) (graph : GraphParts) → IsAccepted input kernel graph
     → degree (dag_of graph) < asked.slots → TellsFile file bytes → Outcome (played_on graph asked.slots asked.weights) bytes → HasLast (Check asked) input file

@@ -8,27 +8,29 @@ use Rattle.potential_cert.specs.GameTables.{IsTableOf}
 use Rattle.potential_cert.specs.Table.{TableParts}
 use Rattle.potential_cert.specs.TableBytes.{IsSpelling}
 use Rattle.potential_cert.proofs.Readable.{length_table}
-use Rattle.pebble_cli.specs.declared.commands.Checking.{Checking}
-use Rattle.pebble_cli.specs.declared.commands.Command.TheVariants.{Check}
-use Rattle.pebble_cli.specs.declared.status.Status.{Status}
-use Rattle.pebble_cli.specs.declared.status.Status.TheVariants.{Done, Refused, Kernel, TooSmall}
-use Rattle.pebble_cli.specs.Accepted.{IsAccepted}
+use Rattle.command_words.specs.declared.commands.Checking.{Checking}
+use Rattle.command_words.specs.declared.commands.Command.TheVariants.{Check}
+use Rattle.command_answers.specs.declared.status.Status.{Status}
+use Rattle.command_answers.specs.declared.status.Status.TheVariants.{Done, Refused, Kernel, TooSmall}
+use Rattle.command_answers.specs.Accepted.{IsAccepted}
 use Rattle.pebble_cli.specs.Answers.{Answers}
-use Rattle.pebble_cli.specs.CheckAnswers.{Checks, IsCertificate, IsCertified, IsRefused, IsRefusedFile, accepted_text, refused_text}
+use Rattle.command_answers.specs.CheckAnswers.{Checks, IsCertificate, IsCertified, IsRefused, IsRefusedFile, accepted_text, refused_text}
 use Rattle.pebble_cli.specs.CheckLaws.{CheckStatuses, DoneWhereCertified, RefusedWhereNot, PlansAreAccepted}
-use Rattle.pebble_cli.specs.PlayedGames.{played_on}
+use Rattle.command_answers.specs.PlayedGames.{played_on}
+use Rattle.command_answers.specs.Refusals.{IsFaulty, IsTooSmall}
 use Rattle.pebble_cli.proofs.AnswerLaws.{Kinds, faulty, not_code, small, last, kind_of, to_last}
 use Rattle.pebble_cli.proofs.CheckKept as to_check
+use Rattle.pebble_cli.proofs.CommandLaws.{the_input, with_slots}
 
 pub check_statuses : CheckStatuses
 check_statuses asked input file status printed table h = by_kind (kind_of (Check asked) refl h)
   where
     by_kind : Kinds (Check asked) input file status printed table
-        → (status ≡ Kernel) ⊎ ((status ≡ TooSmall) ⊎ (((status ≡ Done) × IsCertified asked input file status printed table)
-        ⊎ ((status ≡ Refused) × IsRefusedFile asked input file status printed table)))
-    by_kind (faulty text is k) = inl k.ends
+        → ((status ≡ Kernel) × IsFaulty input status printed table) ⊎ (((status ≡ TooSmall) × IsTooSmall asked.slots input status printed table)
+        ⊎ (((status ≡ Done) × IsCertified asked input file status printed table) ⊎ ((status ≡ Refused) × IsRefusedFile asked input file status printed table)))
+    by_kind (faulty text is k) = inl (k.ends, the_input is k)
     by_kind (not_code is k) = absurd (cc)
-    by_kind (small text slots is has k) = inr (inl k.ends)
+    by_kind (small text slots is has k) = inr (inl (k.ends, with_slots is has k))
     by_kind (last (inl k)) = inr (inr (inl (k.ends, k)))
     by_kind (last (inr k)) = inr (inr (inr (k.ends, k)))
 

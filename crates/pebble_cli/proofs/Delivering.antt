@@ -5,16 +5,16 @@ use Rattle.desk_io.specs.declared.desk.Kind.TheVariants.{TakeInput, TakeFile, Pu
 use Rattle.desk_io.specs.Counts.{Rose}
 use Rattle.desk_io.specs.Known.{file_of}
 use Rattle.std.specs.Io.KnownBytes.{append_known}
-use Rattle.pebble_cli.specs.declared.commands.Command.{Command}
-use Rattle.pebble_cli.specs.declared.commands.Command.TheVariants.{Plan}
-use Rattle.pebble_cli.specs.declared.commands.Planning.{Planning}
-use Rattle.pebble_cli.specs.declared.status.Status.{Status}
-use Rattle.pebble_cli.specs.declared.status.Status.TheVariants.{Optimal, Kernel, TooSmall, Open, ReadFault, WriteFault, NoMemory}
+use Rattle.command_words.specs.declared.commands.Command.{Command}
+use Rattle.command_words.specs.declared.commands.Command.TheVariants.{Plan}
+use Rattle.command_words.specs.declared.commands.Planning.{Planning}
+use Rattle.command_answers.specs.declared.status.Status.{Status}
+use Rattle.command_answers.specs.declared.status.Status.TheVariants.{Optimal, Kernel, TooSmall, Open, ReadFault, WriteFault, NoMemory}
 use Rattle.pebble_cli.specs.Answers.{Answers}
 use Rattle.pebble_cli.specs.Deliver.{CutShort, TableCut, TextCut, SameWriteFaults, file_after}
 use Rattle.pebble_cli.specs.Faults.{ReadCause, of_input, of_file}
-use Rattle.pebble_cli.specs.PlanAnswers.{IsPlanned}
-use Rattle.pebble_cli.specs.Status.{is_last, IsOfRead, IsYielded}
+use Rattle.command_answers.specs.PlanAnswers.{IsPlanned}
+use Rattle.command_answers.specs.Status.{is_last, IsOfRead, IsYielded}
 use Rattle.pebble_cli.proofs.AnswerLaws.{Kinds, faulty, not_code, small, last, kind_of}
 
 -- ---- writes
@@ -95,6 +95,11 @@ IsEnd status Cause = (status ≡ NoMemory) ⊎ ((status ≡ ReadFault) × Cause)
 pub end_is_yielded : (result status : Status) (Cause : Type 0) → IsEnd result Cause → IsYielded result status
 end_is_yielded result status Cause (inl none) = inr (inr (inr none))
 end_is_yielded result status Cause (inr fault) = inr (inl fault.0)
+
+-- and no answer
+pub end_is_no_answer : {X : Type 0} (result status : Status) (Cause : Type 0) → result ≡ status → (status ≢ ReadFault) × ((status ≢ WriteFault) × (status ≢ NoMemory)) → IsEnd result Cause → X
+end_is_no_answer result status Cause is not (inl none) = absurd (not.1.1 (sym is ∙ none))
+end_is_no_answer result status Cause is not (inr fault) = absurd (not.0 (sym is ∙ fault.0))
 
 pub end_is_not_of_read : {X : Type 0} (result : Status) (Cause : Type 0) → IsEnd result Cause → IsOfRead result → X
 end_is_not_of_read result Cause (inl none) (inl e) = absurd (cc)

@@ -5,18 +5,18 @@ use Rattle.scratch_machine.specs.Codes.{CodeParts}
 use Rattle.scratch_machine.specs.Machines.{Ending, Fault, run}
 use Rattle.values_text.specs.Values.{Spells}
 use Rattle.values_text.proofs.Parts.{one_list}
-use Rattle.pebble_cli.specs.declared.commands.Command.TheVariants.{Exec}
-use Rattle.pebble_cli.specs.declared.status.Status.{Status}
-use Rattle.pebble_cli.specs.declared.status.Status.TheVariants.{Done, Values, ExecFault}
+use Rattle.command_words.specs.declared.commands.Command.TheVariants.{Exec}
+use Rattle.command_answers.specs.declared.status.Status.{Status}
+use Rattle.command_answers.specs.declared.status.Status.TheVariants.{Done, Values, ExecFault}
 use Rattle.pebble_cli.specs.Answers.{IsAdmitted, kernel_with_room, code_input}
-use Rattle.pebble_cli.specs.CodeInputs.{IsCodeInput}
-use Rattle.pebble_cli.specs.ExecAnswers.{Executes, IsRunToEnd, IsEmptyRead, IsWrongInputs, ran_text, exec_fault_text, place_of}
-use Rattle.pebble_cli.specs.Status.{is_last}
-use Rattle.pebble_cli.specs.ValuesFiles.{HoldsValues, HoldsNone, values_fault_text}
-use Rattle.pebble_cli.proofs.CodeInputs.{one_code}
-use Rattle.pebble_cli.proofs.LastAnswers.{IsKept, HasLast, AreKept}
-use Rattle.pebble_cli.proofs.ToldBytes.{not_missing, told_bytes, bytes_of}
-use Rattle.pebble_cli.proofs.ValuesFiles.{holds_or_not}
+use Rattle.command_answers.specs.CodeInputs.{IsCodeInput}
+use Rattle.command_answers.specs.ExecAnswers.{Executes, IsRunToEnd, IsEmptyRead, IsWrongInputs, ran_text, exec_fault_text, place_of}
+use Rattle.command_answers.specs.Status.{is_last}
+use Rattle.command_answers.specs.ValuesFiles.{HoldsValues, HoldsNone, values_fault_text}
+use Rattle.command_answers.proofs.CodeInputs.{one_code}
+use Rattle.pebble_cli.proofs.LastAnswers.{IsKept, HasLast, AreKept, AreOne}
+use Rattle.command_answers.proofs.ToldBytes.{not_missing, told_bytes, bytes_of}
+use Rattle.command_answers.proofs.ValuesFiles.{holds_or_not}
 
 -- a code is admitted
 pub admits : (input : List ℕ) (code : CodeParts) → IsCodeInput input code → IsAdmitted Exec input
@@ -31,7 +31,7 @@ kept input file status printed table (inr (inl h)) =
 kept input file status printed table (inr (inr h)) =
     record { admitted = admits input h.code h.input; last = ap is_last h.ends; untold = λ e. h.none; held = λ e. not_missing file h.bytes h.held }
 
--- ---- one status
+-- ---- one answer
 
 -- values of the one code of a text
 pub values_of : (text : List ℕ) (c d : CodeParts) (bytes held : List ℕ) (values : List ℤ) → IsCodeInput text c → IsCodeInput text d → bytes ≡ held
@@ -62,17 +62,38 @@ values_or_none : {X : Type 0} (text : List ℕ) (file : Option (Option (List ℕ
 values_or_none text file held code bytes values t q b told input holds given k =
     absurd (k.wrong values (values_of text code k.code bytes k.bytes values input k.input (told_bytes file held bytes k.bytes told holds k.held) given))
 
+-- the one run comes to one end
+one_end : (text : List ℕ) (file : Option (Option (List ℕ))) (held : Option (List ℕ)) (s t : Status) (p q : List ℕ) (a b : Option (List ℕ))
+    → file ≡ Some held → IsRunToEnd text file s p a → IsRunToEnd text file t q b → AreOne s t p q a b
+one_end text file held s t p q a b told h k =
+    let same = one_run text h.code k.code h.bytes k.bytes h.values k.values h.input k.input (told_bytes file held h.bytes k.bytes told h.held k.held) h.given k.given in
+    let both : Ok h.ending ≡ Ok k.ending = sym h.runs ∙ same ∙ k.runs in
+    let ending : h.ending ≡ k.ending = cc in
+    let code : h.code ≡ k.code = one_code text h.code k.code h.input k.input in
+    let lines : ran_text h.code h.ending ≡ ran_text k.code k.ending = λ i. ran_text (code i) (ending i) in
+    (h.ends ∙ sym k.ends, h.lines ∙ lines ∙ sym k.lines, h.none ∙ sym k.none)
+
+-- or reads what is empty at one place
+one_empty_read : (text : List ℕ) (file : Option (Option (List ℕ))) (held : Option (List ℕ)) (s t : Status) (p q : List ℕ) (a b : Option (List ℕ))
+    → file ≡ Some held → IsEmptyRead text file s p a → IsEmptyRead text file t q b → AreOne s t p q a b
+one_empty_read text file held s t p q a b told h k =
+    let same = one_run text h.code k.code h.bytes k.bytes h.values k.values h.input k.input (told_bytes file held h.bytes k.bytes told h.held k.held) h.given k.given in
+    let both : Err h.fault ≡ Err k.fault = sym h.faults ∙ same ∙ k.faults in
+    let fault : h.fault ≡ k.fault = cc in
+    let line : exec_fault_text (place_of h.fault) ≡ exec_fault_text (place_of k.fault) = ap (λ f. exec_fault_text (place_of f)) fault in
+    (h.ends ∙ sym k.ends, h.line ∙ line ∙ sym k.line, h.none ∙ sym k.none)
+
 once : (text : List ℕ) (file : Option (Option (List ℕ))) (held : Option (List ℕ)) (s t : Status) (p q : List ℕ) (a b : Option (List ℕ))
-    → file ≡ Some held → Executes text file s p a → Executes text file t q b → s ≡ t
-once text file held s t p q a b told (inl h) (inl k) = h.ends ∙ sym k.ends
+    → file ≡ Some held → Executes text file s p a → Executes text file t q b → AreOne s t p q a b
+once text file held s t p q a b told (inl h) (inl k) = one_end text file held s t p q a b told h k
 once text file held s t p q a b told (inl h) (inr (inl k)) = ends_or_faults text file held s t p q a b told h k
 once text file held s t p q a b told (inl h) (inr (inr k)) = values_or_none text file held h.code h.bytes h.values t q b told h.input h.held h.given k
 once text file held s t p q a b told (inr (inl h)) (inl k) = ends_or_faults text file held t s q p b a told k h
-once text file held s t p q a b told (inr (inl h)) (inr (inl k)) = h.ends ∙ sym k.ends
+once text file held s t p q a b told (inr (inl h)) (inr (inl k)) = one_empty_read text file held s t p q a b told h k
 once text file held s t p q a b told (inr (inl h)) (inr (inr k)) = values_or_none text file held h.code h.bytes h.values t q b told h.input h.held h.given k
 once text file held s t p q a b told (inr (inr h)) (inl k) = values_or_none text file held k.code k.bytes k.values s p a told k.input k.held k.given h
 once text file held s t p q a b told (inr (inr h)) (inr (inl k)) = values_or_none text file held k.code k.bytes k.values s p a told k.input k.held k.given h
-once text file held s t p q a b told (inr (inr h)) (inr (inr k)) = h.ends ∙ sym k.ends
+once text file held s t p q a b told (inr (inr h)) (inr (inr k)) = (h.ends ∙ sym k.ends, h.line ∙ sym k.line, h.none ∙ sym k.none)
 
 -- ---- there is an answer
 

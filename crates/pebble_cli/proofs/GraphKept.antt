@@ -3,14 +3,15 @@ use Rattle.std.proofs.Common.{◌≡◌, ℕ, List, Option, None, refl, sym, ap,
 use Rattle.comp_graph.specs.Graphs.{GraphParts}
 use Rattle.kernel_ast.specs.KernelParts.{KernelParts}
 use Rattle.plan_report.specs.GraphText.{graph_text}
-use Rattle.pebble_cli.specs.declared.commands.Command.TheVariants.{Graph}
-use Rattle.pebble_cli.specs.declared.status.Status.{Status}
-use Rattle.pebble_cli.specs.declared.status.Status.TheVariants.{Done}
-use Rattle.pebble_cli.specs.Accepted.{IsAccepted}
+use Rattle.command_words.specs.declared.commands.Command.TheVariants.{Graph}
+use Rattle.command_answers.specs.declared.status.Status.{Status}
+use Rattle.command_answers.specs.declared.status.Status.TheVariants.{Done}
+use Rattle.command_answers.specs.Accepted.{IsAccepted}
 use Rattle.pebble_cli.specs.Answers.{IsAdmitted, kernel_with_room, code_input}
-use Rattle.pebble_cli.specs.GraphAnswers.{IsDrawn}
-use Rattle.pebble_cli.specs.Status.{is_last}
-use Rattle.pebble_cli.proofs.LastAnswers.{IsKept, HasLast, AreKept}
+use Rattle.command_answers.specs.GraphAnswers.{IsDrawn}
+use Rattle.command_answers.specs.Status.{is_last}
+use Rattle.command_answers.proofs.Accepting.{accepted_once}
+use Rattle.pebble_cli.proofs.LastAnswers.{IsKept, HasLast, AreKept, AreOne}
 
 -- an accepted kernel is admitted
 pub admits : (input : List ℕ) (kernel : KernelParts) (graph : GraphParts) → IsAccepted input kernel graph → IsAdmitted Graph input
@@ -24,6 +25,11 @@ kept input file status printed table h = record {
   untold = λ e. h.none;
   held = λ e. absurd (cc);
 }
+
+once : (text : List ℕ) (s t : Status) (p q : List ℕ) (a b : Option (List ℕ)) → IsDrawn text s p a → IsDrawn text t q b → AreOne s t p q a b
+once text s t p q a b h k =
+    let same : h.graph ≡ k.graph = (accepted_once text h.kernel k.kernel h.graph k.graph h.accepted k.accepted).1 in
+    (h.ends ∙ sym k.ends, h.lines ∙ ap graph_text same ∙ sym k.lines, h.none ∙ sym k.none)
 
 some : (input : List ℕ) (file : Option (Option (List ℕ))) → IsAdmitted Graph input → HasLast Graph input file
 some input file (kernel_with_room text e h) =
@@ -39,6 +45,6 @@ some input file (code_input code is h) = absurd (cc)
 pub graph_kept : AreKept Graph
 graph_kept = record {
   each = kept;
-  once = λ input file s t p q a b told h k. h.ends ∙ sym k.ends;
+  once = λ input file s t p q a b told h k. once input s t p q a b h k;
   some = λ input file limits held admitted. some input file admitted;
 }

@@ -1,5 +1,5 @@
 -- The last answers of `plan`: one to each accepted kernel with enough slots, by the plan that the search finds and its table.
-use Rattle.std.proofs.Common.{◌≡◌, ℕ, ◌<◌, Bool, true, false, List, Option, None, Some, refl, sym, ap, ◌∙◌, subst, arith}
+use Rattle.std.proofs.Common.{◌≡◌, ℕ, ◌<◌, Bool, true, false, List, Option, None, Some, refl, ap, ◌∙◌, subst, arith}
 use Rattle.comp_graph.specs.Dags.{degree}
 use Rattle.comp_graph.specs.Graphs.{GraphParts, dag_of}
 use Rattle.comp_graph.specs.Games.{IsGame}
@@ -7,22 +7,23 @@ use Rattle.kernel_ast.specs.KernelParts.{KernelParts}
 use Rattle.potential_cert.specs.Table.{IsSupport}
 use Rattle.potential_cert.specs.TableBytes.{table_bytes}
 use Rattle.potential_cert.proofs.SupportLaws.{support_is_one, support_ignores_order}
-use Rattle.pebble_cli.specs.declared.commands.Command.TheVariants.{Plan}
-use Rattle.pebble_cli.specs.declared.commands.Planning.{Planning}
-use Rattle.pebble_cli.specs.declared.status.Status.{Status}
-use Rattle.pebble_cli.specs.Accepted.{IsAccepted}
+use Rattle.command_words.specs.declared.commands.Command.TheVariants.{Plan}
+use Rattle.command_words.specs.declared.commands.Planning.{Planning}
+use Rattle.command_answers.specs.declared.status.Status.{Status}
+use Rattle.command_answers.specs.Accepted.{IsAccepted}
 use Rattle.pebble_cli.specs.Answers.{IsAdmitted, kernel_with_room, code_input}
-use Rattle.pebble_cli.specs.PlanAnswers.{IsPlanned, plan_asked, rows_asked, plan_text, verdict_status}
+use Rattle.command_answers.specs.PlanAnswers.{IsPlanned, plan_asked, rows_asked, plan_text, verdict_status}
 use Rattle.pebble_cli.specs.PlanLaws.{IsBoundAsked}
-use Rattle.pebble_cli.specs.PlayedGames.{game_asked, played_for}
-use Rattle.pebble_cli.specs.Status.{is_last}
-use Rattle.pebble_cli.specs.Words.{IsInLimits}
-use Rattle.pebble_cli.proofs.Accepting.{accepted_once, accepted_graph}
-use Rattle.pebble_cli.proofs.FoundPlans.{printed_with, found_answers}
+use Rattle.command_answers.specs.PlayedGames.{game_asked, played_for}
+use Rattle.command_answers.specs.Status.{is_last}
+use Rattle.command_words.specs.Words.{IsInLimits}
+use Rattle.command_answers.proofs.Accepting.{accepted_once, accepted_graph}
+use Rattle.command_answers.proofs.FoundPlans.{printed_with, found_answers}
+use Rattle.command_answers.proofs.OnePlans.{one_plan}
 use Rattle.pebble_cli.proofs.LastAnswers.{IsKept, HasLast, AreKept}
-use Rattle.pebble_cli.proofs.SomePlans.{table_asked, is_searched, is_spelled}
+use Rattle.command_answers.proofs.SomePlans.{table_asked, is_searched, is_spelled}
 
-verdict_last : (optimal : Bool) → is_last (verdict_status optimal) ≡ true
+pub verdict_last : (optimal : Bool) → is_last (verdict_status optimal) ≡ true
 verdict_last true = refl
 verdict_last false = refl
 
@@ -60,23 +61,6 @@ planned_numbers asked text kernel graph status printed table accepted h =
 -- there is one such bound
 pub one_bound : (asked : Planning) (graph : GraphParts) (a b : ℕ) → IsBoundAsked asked graph a → IsBoundAsked asked graph b → a ≡ b
 one_bound asked graph a b = support_is_one (played_for asked graph) (rows_asked asked graph) (plan_asked asked graph).total a b
-
--- two truths that follow from one another
-same_truth : (a b : Bool) → (a ≡ true → b ≡ true) → (b ≡ true → a ≡ true) → a ≡ b
-same_truth true b to from = sym (to refl)
-same_truth false true to from = from refl
-same_truth false false to from = refl
-
-once : (asked : Planning) (text : List ℕ) (s t : Status) (p q : List ℕ) (a b : Option (List ℕ)) → IsPlanned asked text s p a → IsPlanned asked text t q b → s ≡ t
-once asked text s t p q a b h k =
-    let numbers = planned_numbers asked text k.kernel k.graph s p a k.accepted h in
-    let others = planned_numbers asked text k.kernel k.graph t q b k.accepted k in
-    let bounds : h.plan.numbers.bound ≡ k.plan.numbers.bound = one_bound asked k.graph h.plan.numbers.bound k.plan.numbers.bound numbers.0 others.0 in
-    let costs : h.plan.numbers.cost ≡ k.plan.numbers.cost = numbers.1 ∙ sym others.1 in
-    let same = same_truth h.plan.numbers.optimal k.plan.numbers.optimal
-    (λ e. k.answer.shown.is_optimal.1 (sym bounds ∙ h.answer.shown.is_optimal.0 e ∙ costs))
-    (λ e. h.answer.shown.is_optimal.1 (bounds ∙ k.answer.shown.is_optimal.0 e ∙ sym costs)) in
-    h.ends ∙ ap verdict_status same ∙ sym k.ends
 
 -- a plan answers an accepted kernel with enough slots
 answered : (asked : Planning) (text : List ℕ) (kernel : KernelParts) (graph : GraphParts) (game : IsGame (game_asked asked graph)) → IsInLimits (Plan asked) → IsAccepted text kernel graph
@@ -126,6 +110,6 @@ some asked input file limits (code_input code is h) = absurd (cc)
 pub plan_kept : (asked : Planning) → AreKept (Plan asked)
 plan_kept asked = record {
   each = kept asked;
-  once = λ input file s t p q a b told h k. once asked input s t p q a b h k;
+  once = λ input file s t p q a b told h k. one_plan asked input s t p q a b h k;
   some = λ input file limits held admitted. some asked input file limits admitted;
 }

@@ -32,14 +32,14 @@ use Rattle.scratch_code.proofs.Names.{name_has_not, no_feed}
 use Rattle.scratch_code.proofs.Reader.{reads_behind_comments}
 use Rattle.three_address.specs.Laws as graphs
 use Rattle.three_address.proofs.SmallConstants.{constants_are_small}
-use Rattle.pebble_cli.specs.declared.commands.Command.TheVariants.{Plan}
-use Rattle.pebble_cli.specs.declared.commands.Planning.{Planning}
-use Rattle.pebble_cli.specs.declared.status.Status.{Status}
-use Rattle.pebble_cli.specs.PlanAnswers.{IsPlanned, facts_of}
-use Rattle.pebble_cli.specs.PlayedGames.{game_asked}
-use Rattle.pebble_cli.specs.Words.{IsInLimits}
-use Rattle.pebble_cli.proofs.FirstPlans.{first_plan_valid}
-use Rattle.pebble_cli.proofs.KernelLabels.{labels_are_labels, name_is_name}
+use Rattle.command_words.specs.declared.commands.Command.TheVariants.{Plan}
+use Rattle.command_words.specs.declared.commands.Planning.{Planning}
+use Rattle.command_answers.specs.declared.status.Status.{Status}
+use Rattle.command_answers.specs.PlanAnswers.{IsPlanned, facts_of}
+use Rattle.command_answers.specs.PlayedGames.{game_asked}
+use Rattle.command_words.specs.Words.{IsInLimits}
+use Rattle.command_answers.proofs.FirstPlans.{first_plan_valid}
+use Rattle.command_answers.proofs.KernelLabels.{labels_are_labels, name_is_name}
 
 -- ---- constants
 

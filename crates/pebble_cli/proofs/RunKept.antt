@@ -7,18 +7,20 @@ use Rattle.kernel_ast.specs.KernelParts.{KernelParts}
 use Rattle.kernel_ast.specs.Labels.{labels_of}
 use Rattle.kernel_ast.specs.Meaning.{outputs}
 use Rattle.plan_report.specs.OutputsText.{outputs_text}
-use Rattle.pebble_cli.specs.declared.commands.Command.TheVariants.{Run}
-use Rattle.pebble_cli.specs.declared.status.Status.{Status}
-use Rattle.pebble_cli.specs.declared.status.Status.TheVariants.{Done, Values}
-use Rattle.pebble_cli.specs.Accepted.{IsAccepted}
+use Rattle.values_text.specs.Values.{Spells}
+use Rattle.values_text.proofs.Parts.{one_list}
+use Rattle.command_words.specs.declared.commands.Command.TheVariants.{Run}
+use Rattle.command_answers.specs.declared.status.Status.{Status}
+use Rattle.command_answers.specs.declared.status.Status.TheVariants.{Done, Values}
+use Rattle.command_answers.specs.Accepted.{IsAccepted}
 use Rattle.pebble_cli.specs.Answers.{IsAdmitted, kernel_with_room, code_input}
-use Rattle.pebble_cli.specs.RunAnswers.{Runs, IsValued, IsWrongValues, IsValuesFile, IsNoValuesFile}
-use Rattle.pebble_cli.specs.Status.{is_last}
-use Rattle.pebble_cli.specs.ValuesFiles.{values_fault_text}
-use Rattle.pebble_cli.proofs.Accepting.{accepted_once}
-use Rattle.pebble_cli.proofs.LastAnswers.{IsKept, HasLast, AreKept}
-use Rattle.pebble_cli.proofs.ToldBytes.{not_missing, told_bytes, bytes_of}
-use Rattle.pebble_cli.proofs.ValuesFiles.{holds_or_not}
+use Rattle.command_answers.specs.RunAnswers.{Runs, IsValued, IsWrongValues, IsValuesFile, IsNoValuesFile}
+use Rattle.command_answers.specs.Status.{is_last}
+use Rattle.command_answers.specs.ValuesFiles.{values_fault_text}
+use Rattle.command_answers.proofs.Accepting.{accepted_once}
+use Rattle.pebble_cli.proofs.LastAnswers.{IsKept, HasLast, AreKept, AreOne}
+use Rattle.command_answers.proofs.ToldBytes.{not_missing, told_bytes, bytes_of}
+use Rattle.command_answers.proofs.ValuesFiles.{holds_or_not}
 
 -- an accepted kernel is admitted
 pub admits : (input : List ℕ) (kernel : KernelParts) (graph : GraphParts) → IsAccepted input kernel graph → IsAdmitted Run input
@@ -51,12 +53,23 @@ clash : {X : Type 0} (text : List ℕ) (file : Option (Option (List ℕ))) (held
 clash text file held s t p q a b told h k =
     absurd (k.wrong h.values (values_of text h.kernel k.kernel h.graph k.graph h.bytes k.bytes h.values h.accepted k.accepted (told_bytes file held h.bytes k.bytes told h.held k.held) h.given))
 
+-- the outputs of the one kernel on the one list of values are one
+one_run : (text : List ℕ) (file : Option (Option (List ℕ))) (held : Option (List ℕ)) (s t : Status) (p q : List ℕ) (a b : Option (List ℕ))
+    → file ≡ Some held → IsValued text file s p a → IsValued text file t q b → AreOne s t p q a b
+one_run text file held s t p q a b told h k =
+    let kernels : h.kernel ≡ k.kernel = (accepted_once text h.kernel k.kernel h.graph k.graph h.accepted k.accepted).0 in
+    let bytes : h.bytes ≡ k.bytes = told_bytes file held h.bytes k.bytes told h.held k.held in
+    let list : h.values ≡ k.values = one_list k.bytes h.values k.values (subst (λ z. Spells z h.values) bytes h.given.spelled) k.given.spelled in
+    let lines : outputs_text (labels_of kinds.Output h.kernel.decls) (outputs h.kernel h.values) ≡ outputs_text (labels_of kinds.Output k.kernel.decls) (outputs k.kernel k.values) =
+    λ i. outputs_text (labels_of kinds.Output (kernels i).decls) (outputs (kernels i) (list i)) in
+    (h.ends ∙ sym k.ends, h.lines ∙ lines ∙ sym k.lines, h.none ∙ sym k.none)
+
 once : (text : List ℕ) (file : Option (Option (List ℕ))) (held : Option (List ℕ)) (s t : Status) (p q : List ℕ) (a b : Option (List ℕ))
-    → file ≡ Some held → Runs text file s p a → Runs text file t q b → s ≡ t
-once text file held s t p q a b told (inl h) (inl k) = h.ends ∙ sym k.ends
+    → file ≡ Some held → Runs text file s p a → Runs text file t q b → AreOne s t p q a b
+once text file held s t p q a b told (inl h) (inl k) = one_run text file held s t p q a b told h k
 once text file held s t p q a b told (inl h) (inr k) = clash text file held s t p q a b told h k
 once text file held s t p q a b told (inr h) (inl k) = clash text file held t s q p b a told k h
-once text file held s t p q a b told (inr h) (inr k) = h.ends ∙ sym k.ends
+once text file held s t p q a b told (inr h) (inr k) = (h.ends ∙ sym k.ends, h.line ∙ sym k.line, h.none ∙ sym k.none)
 
 -- ---- there is an answer
 

@@ -6,22 +6,24 @@ use Rattle.desk_io.specs.Counts.{Rose}
 use Rattle.desk_io.specs.Known.{Tells}
 use Rattle.kernel_gen.specs.Trials.{trial_kernel}
 use Rattle.scratch_machine.specs.Codes.{CodeParts}
-use Rattle.pebble_cli.specs.declared.answer.Answer.{Answer}
-use Rattle.pebble_cli.specs.declared.answer.EarlyEnd.{EarlyEnd}
-use Rattle.pebble_cli.specs.declared.answer.EarlyEnd.TheVariants.{Refused, ReadFault, NoMemory}
-use Rattle.pebble_cli.specs.declared.commands.Command.{Command}
-use Rattle.pebble_cli.specs.declared.commands.Command.TheVariants.{Plan, Check, Run, Exec, Graph, Trial}
-use Rattle.pebble_cli.specs.declared.commands.Subject.TheVariants.{InputKernel, InputCode, TrialKernel}
+use Rattle.command_answers.specs.declared.answer.Answer.{Answer}
+use Rattle.command_answers.specs.declared.answer.EarlyEnd.{EarlyEnd}
+use Rattle.command_answers.specs.declared.answer.EarlyEnd.TheVariants.{Refused, ReadFault, NoMemory}
+use Rattle.command_words.specs.declared.commands.Command.{Command}
+use Rattle.command_words.specs.declared.commands.Command.TheVariants.{Plan, Check, Run, Exec, Graph, Trial, Cover, CoverCheck, Parts, Judge, Tidy, Cache}
+use Rattle.command_words.specs.declared.commands.Subject.TheVariants.{InputKernel, InputCode, TrialKernel}
 use Rattle.pebble_cli.specs.Answers.{Answers, usage, faulty_kernel, no_code, last_answer, IsAdmitted, code_input}
-use Rattle.pebble_cli.specs.CodeInputs.{IsCodeInput, IsNoCode}
-use Rattle.pebble_cli.specs.Commands.{subject, kernel_text, reads_file}
-use Rattle.pebble_cli.specs.ExecAnswers.{Executes}
+use Rattle.command_answers.specs.CodeInputs.{IsCodeInput, IsNoCode}
+use Rattle.command_words.specs.Commands.{subject, reads_file}
+use Rattle.command_answers.specs.Subjects.{kernel_text}
+use Rattle.command_answers.specs.ExecAnswers.{Executes}
 use Rattle.pebble_cli.specs.Faults.{ReadCause, of_file}
-use Rattle.pebble_cli.specs.MadeAnswers.{Meets, AnswersInput, IfRefused, IfAnswer}
-use Rattle.pebble_cli.specs.Refusals.{IsUsage, IsFaulty}
-use Rattle.pebble_cli.specs.Words.{IsInLimits}
-use Rattle.pebble_cli.proofs.KernelAnswers.{more_of}
-use Rattle.pebble_cli.proofs.ToldBytes.{told_text}
+use Rattle.command_answers.specs.MadeAnswers.{Meets, IfRefused, IfAnswer}
+use Rattle.pebble_cli.specs.InputAnswers.{AnswersInput}
+use Rattle.command_answers.specs.Refusals.{IsUsage, IsFaulty}
+use Rattle.command_words.specs.Words.{IsInLimits}
+use Rattle.command_answers.proofs.EarlyEnds.{more_of}
+use Rattle.command_answers.proofs.ToldBytes.{told_text}
 
 -- the text of a kernel that the input is
 pub input_is_text : (command : Command) (input : List ℕ) → subject command ≡ InputKernel → kernel_text (subject command) input ≡ Some input
@@ -66,6 +68,12 @@ only_exec Run e = absurd (cc)
 only_exec Exec e = refl
 only_exec Graph e = absurd (cc)
 only_exec (Trial asked) e = absurd (cc)
+only_exec (Cover asked) e = absurd (cc)
+only_exec (CoverCheck slots) e = absurd (cc)
+only_exec (Parts asked) e = absurd (cc)
+only_exec (Judge slots) e = absurd (cc)
+only_exec (Tidy slots) e = absurd (cc)
+only_exec (Cache asked) e = absurd (cc)
 
 -- a code that is too long
 pub long_code_answers : {A : Type 0} (r : Result Answer EarlyEnd) (text : Result A EarlyEnd) (end : EarlyEnd) (command : Command) (known : Option (List ℕ)) (file : Option (Option (List ℕ)))
@@ -112,6 +120,12 @@ trial_in_limits (Check asked) statements e limits = absurd (cc)
 trial_in_limits Run statements e limits = absurd (cc)
 trial_in_limits Exec statements e limits = absurd (cc)
 trial_in_limits Graph statements e limits = absurd (cc)
+trial_in_limits (Cover asked) statements e limits = absurd (cc)
+trial_in_limits (CoverCheck slots) statements e limits = absurd (cc)
+trial_in_limits (Parts asked) statements e limits = absurd (cc)
+trial_in_limits (Judge slots) statements e limits = absurd (cc)
+trial_in_limits (Tidy slots) statements e limits = absurd (cc)
+trial_in_limits (Cache asked) statements e limits = absurd (cc)
 trial_in_limits (Trial asked) statements e limits = let same : asked.statements ≡ statements = cc in subst (λ n. (1 ≤ n) × (n ≤ 200)) same limits.0
 
 -- a trial reads no file
@@ -121,6 +135,12 @@ trial_reads_nothing (Check asked) statements e = absurd (cc)
 trial_reads_nothing Run statements e = absurd (cc)
 trial_reads_nothing Exec statements e = absurd (cc)
 trial_reads_nothing Graph statements e = refl
+trial_reads_nothing (Cover asked) statements e = refl
+trial_reads_nothing (CoverCheck slots) statements e = absurd (cc)
+trial_reads_nothing (Parts asked) statements e = refl
+trial_reads_nothing (Judge slots) statements e = absurd (cc)
+trial_reads_nothing (Tidy slots) statements e = absurd (cc)
+trial_reads_nothing (Cache asked) statements e = refl
 trial_reads_nothing (Trial asked) statements e = refl
 
 -- what answers the trial kernel answers any input

@@ -1,44 +1,55 @@
--- Laws of the answers over the definitions alone, with no desk: words, an input and a file have one status, each refusal stands exactly
+-- Laws of the answers over the definitions alone, with no desk: words, an input and a file have one answer, each refusal stands exactly
 -- where its cause is met, and a command's own answer exactly where none is. The laws of a command's own statuses stand in a file of its own.
 use Rattle.std.specs.Prelude.{◌≡◌, ◌≢◌, ◌⊎◌, ℕ, ◌+◌, ◌≤◌, true, false, List, Option, None, Some}
 use Rattle.comp_graph.specs.Dags.{degree}
 use Rattle.comp_graph.specs.Graphs.{GraphParts, dag_of}
 use Rattle.kernel_ast.specs.KernelParts.{KernelParts}
-use Rattle.pebble_cli.specs.declared.commands.Command.{Command}
-use Rattle.pebble_cli.specs.declared.commands.Subject.TheVariants.{InputCode}
-use Rattle.pebble_cli.specs.declared.status.Status.{Status}
-use Rattle.pebble_cli.specs.declared.status.Status.TheVariants.{Usage, Kernel, TooSmall, ReadFault, WriteFault, NoMemory, Code}
-use Rattle.pebble_cli.specs.Accepted.{IsAccepted, IsKernelFault}
+use Rattle.command_words.specs.declared.commands.Command.{Command}
+use Rattle.command_words.specs.declared.commands.Subject.TheVariants.{InputCode}
+use Rattle.command_answers.specs.declared.status.Status.{Status}
+use Rattle.command_answers.specs.declared.status.Status.TheVariants.{Usage, Kernel, TooSmall, ReadFault, WriteFault, NoMemory, Code}
+use Rattle.command_answers.specs.Accepted.{IsAccepted, IsKernelFault}
 use Rattle.pebble_cli.specs.Answers.{Answers, LastAnswers, IsAdmitted}
-use Rattle.pebble_cli.specs.CodeInputs.{IsCodeFault, IsNoCode, code_fault_text}
-use Rattle.pebble_cli.specs.Commands.{subject, slots_of, kernel_text, reads_file, writes_file}
+use Rattle.command_answers.specs.CodeInputs.{IsCodeFault, IsNoCode, code_fault_text}
+use Rattle.command_words.specs.Commands.{subject, slots_of, reads_file, reads_input, writes_file}
+use Rattle.command_answers.specs.Subjects.{kernel_text}
 use Rattle.pebble_cli.specs.Faults.{IsFileTold}
-use Rattle.pebble_cli.specs.Refusals.{IsUsage, IsFaulty, IsTooSmall, usage_text, kernel_fault_text, too_small_text}
-use Rattle.pebble_cli.specs.Status.{is_last}
-use Rattle.pebble_cli.specs.Words.{command, IsInLimits}
+use Rattle.command_answers.specs.Refusals.{IsUsage, IsFaulty, IsTooSmall, usage_text, kernel_fault_text, too_small_text}
+use Rattle.command_answers.specs.Status.{is_last}
+use Rattle.command_words.specs.Words.{command, IsInLimits}
 
 -- Something holds of each answer.
 abbrev pub OfAnswers : (Option Command → List ℕ → Option (Option (List ℕ)) → Status → List ℕ → Option (List ℕ) → Type 0) → Type 0
 OfAnswers P = (asked : Option Command) (input : List ℕ) (file : Option (Option (List ℕ))) (status : Status) (printed : List ℕ) (table : Option (List ℕ))
     → Answers asked input file status printed table → P asked input file status printed table
 
+-- what a command on the kernel in the input answers with so many slots: a kernel's fault, too few slots, or its own
+abbrev pub RefusedOr : List ℕ → ℕ → Status → List ℕ → Option (List ℕ) → Type 0 → Type 0
+RefusedOr input slots status printed table Own =
+    ((status ≡ Kernel) × IsFaulty input status printed table) ⊎ (((status ≡ TooSmall) × IsTooSmall slots input status printed table) ⊎ Own)
+
 -- ---- one answer
 
--- Two answers to the same words, input and file have one status: of a refusal in any case, of a command's own answer where the file is told
--- that the words ask to read.
+-- Two answers to the same words, input and file are one: they have one status, one printed text and one table; a refusal in any case, a
+-- command's own answer where the file is told that the words ask to read.
 abbrev pub OneAnswer : Type 0
 OneAnswer = OfAnswers (λ asked input file status printed table. (other : Status) (text : List ℕ) (bytes : Option (List ℕ))
-    → (is_last status ≡ true → IsFileTold asked file) → Answers asked input file other text bytes → status ≡ other)
+    → (is_last status ≡ true → IsFileTold asked file) → Answers asked input file other text bytes → (status ≡ other) × (printed ≡ text) × (table ≡ bytes))
 
--- There is an answer to all words, each input and each file, but for a file that is missing and is to be read.
+-- There is an answer to all words, each input and each file, but for a file that is missing where the command comes to read it: nothing
+-- refuses the input.
 abbrev pub SomeAnswer : Type 0
 SomeAnswer = (words : List (List ℕ)) (input : List ℕ) (file : Option (Option (List ℕ)))
-    → (reads_file (command words) ≡ true → file ≡ Some None → ⊥)
+    → ((asked : Command) → command words ≡ Some asked → IsAdmitted asked input → reads_file (Some asked) ≡ true → file ≡ Some None → ⊥)
     → (status : Status) × (printed : List ℕ) × (table : Option (List ℕ)) × Answers (command words) input file status printed table
 
--- The numbers of a command that words spell are in range.
-abbrev pub WordsAreInLimits : Type 0
-WordsAreInLimits = (words : List (List ℕ)) (asked : Command) → command words ≡ Some asked → IsInLimits asked
+-- What answers words that read no input answers them with any, and what is admitted with one is admitted with any.
+abbrev pub AnswersAnyInput : Type 0
+AnswersAnyInput = OfAnswers (λ asked input file status printed table. (other : List ℕ) → reads_input asked ≡ false
+    → Answers asked other file status printed table)
+
+abbrev pub AdmitsAnyInput : Type 0
+AdmitsAnyInput = (asked : Command) (input other : List ℕ) → reads_input (Some asked) ≡ false → IsAdmitted asked input → IsAdmitted asked other
 
 -- No answer is a fault of the desk or of memory.
 abbrev pub NoFaultIsAnAnswer : Type 0

@@ -5,20 +5,26 @@ use Rattle.comp_graph.specs.Dags.{degree}
 use Rattle.comp_graph.specs.Graphs.{GraphParts, dag_of}
 use Rattle.desk_io.specs.Known.{Tells}
 use Rattle.kernel_ast.specs.KernelParts.{KernelParts}
-use Rattle.pebble_cli.specs.declared.commands.Command.{Command}
-use Rattle.pebble_cli.specs.declared.commands.Command.TheVariants.{Plan, Check, Run, Exec, Graph, Trial}
-use Rattle.pebble_cli.specs.declared.commands.Subject.TheVariants.{InputCode}
-use Rattle.pebble_cli.specs.declared.status.Status.{Status}
-use Rattle.pebble_cli.specs.Accepted.{IsAccepted}
-use Rattle.pebble_cli.specs.CheckAnswers.{Checks}
-use Rattle.pebble_cli.specs.CodeInputs.{IsCodeInput, IsNoCode}
-use Rattle.pebble_cli.specs.Commands.{subject, slots_of, kernel_text}
-use Rattle.pebble_cli.specs.ExecAnswers.{Executes}
-use Rattle.pebble_cli.specs.GraphAnswers.{IsDrawn}
-use Rattle.pebble_cli.specs.PlanAnswers.{IsPlanned}
-use Rattle.pebble_cli.specs.Refusals.{IsUsage, IsFaulty, IsTooSmall}
-use Rattle.pebble_cli.specs.RunAnswers.{Runs}
-use Rattle.pebble_cli.specs.TrialAnswers.{IsTried}
+use Rattle.command_words.specs.declared.commands.Command.{Command}
+use Rattle.command_words.specs.declared.commands.Command.TheVariants.{Plan, Check, Run, Exec, Graph, Trial, Cover, CoverCheck, Parts, Judge, Tidy, Cache}
+use Rattle.command_words.specs.declared.commands.Subject.TheVariants.{InputCode}
+use Rattle.command_answers.specs.declared.status.Status.{Status}
+use Rattle.command_answers.specs.Accepted.{IsAccepted}
+use Rattle.command_answers.specs.CacheAnswers.{IsCached}
+use Rattle.command_answers.specs.CheckAnswers.{Checks}
+use Rattle.command_answers.specs.CoverAnswers.{IsCovered}
+use Rattle.command_answers.specs.CoverCheckAnswers.{CoverChecks}
+use Rattle.command_answers.specs.PartAnswers.{IsParted}
+use Rattle.command_answers.specs.PlayAnswers.{Judges, Tidies}
+use Rattle.command_answers.specs.CodeInputs.{IsCodeInput, IsNoCode}
+use Rattle.command_words.specs.Commands.{subject, slots_of}
+use Rattle.command_answers.specs.Subjects.{kernel_text}
+use Rattle.command_answers.specs.ExecAnswers.{Executes}
+use Rattle.command_answers.specs.GraphAnswers.{IsDrawn}
+use Rattle.command_answers.specs.PlanAnswers.{IsPlanned}
+use Rattle.command_answers.specs.Refusals.{IsUsage, IsFaulty, IsTooSmall}
+use Rattle.command_answers.specs.RunAnswers.{Runs}
+use Rattle.command_answers.specs.TrialAnswers.{IsTried}
 use Rattle.scratch_machine.specs.Codes.{CodeParts}
 
 -- the last answers of each command to an input and a file, as far as the desk tells the file
@@ -29,6 +35,12 @@ LastAnswers Run input file = Runs input file
 LastAnswers Exec input file = Executes input file
 LastAnswers Graph input file = IsDrawn input
 LastAnswers (Trial asked) input file = IsTried asked
+LastAnswers (Cover asked) input file = IsCovered asked input
+LastAnswers (CoverCheck slots) input file = CoverChecks slots input file
+LastAnswers (Parts asked) input file = IsParted asked input
+LastAnswers (Judge slots) input file = Judges slots input file
+LastAnswers (Tidy slots) input file = Tidies slots input file
+LastAnswers (Cache asked) input file = IsCached asked input
 
 -- The status, the text and the table that answer words with this input and this file, as far as the desk tells the file: words that
 -- spell no command, a kernel with a fault, an input that is no code, too few slots, and else an answer of the command's own.

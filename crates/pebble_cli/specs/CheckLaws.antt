@@ -5,24 +5,25 @@ use Rattle.comp_graph.specs.Games.{PebbleGame}
 use Rattle.comp_graph.specs.Graphs.{GraphParts, dag_of}
 use Rattle.kernel_ast.specs.KernelParts.{KernelParts}
 use Rattle.potential_cert.specs.Table.{TableParts}
-use Rattle.pebble_cli.specs.declared.commands.Checking.{Checking}
-use Rattle.pebble_cli.specs.declared.commands.Command.TheVariants.{Check, Plan}
-use Rattle.pebble_cli.specs.declared.commands.Planning.{Planning}
-use Rattle.pebble_cli.specs.declared.status.Status.{Status}
-use Rattle.pebble_cli.specs.declared.status.Status.TheVariants.{Done, Refused, Kernel, TooSmall}
-use Rattle.pebble_cli.specs.Accepted.{IsAccepted}
+use Rattle.command_words.specs.declared.commands.Checking.{Checking}
+use Rattle.command_words.specs.declared.commands.Command.TheVariants.{Check, Plan}
+use Rattle.command_words.specs.declared.commands.Planning.{Planning}
+use Rattle.command_answers.specs.declared.status.Status.{Status}
+use Rattle.command_answers.specs.declared.status.Status.TheVariants.{Done, Refused, Kernel, TooSmall}
+use Rattle.command_answers.specs.Accepted.{IsAccepted}
 use Rattle.pebble_cli.specs.Answers.{Answers}
-use Rattle.pebble_cli.specs.CheckAnswers.{IsCertificate, IsCertified, IsRefused, IsRefusedFile, accepted_text, refused_text}
-use Rattle.pebble_cli.specs.PlanAnswers.{IsPlanned}
-use Rattle.pebble_cli.specs.PlayedGames.{played_on}
-use Rattle.pebble_cli.specs.Words.{IsInLimits}
+use Rattle.command_answers.specs.CheckAnswers.{IsCertificate, IsCertified, IsRefused, IsRefusedFile, accepted_text, refused_text}
+use Rattle.command_answers.specs.PlanAnswers.{IsPlanned}
+use Rattle.command_answers.specs.PlayedGames.{played_on}
+use Rattle.command_answers.specs.Refusals.{IsFaulty, IsTooSmall}
+use Rattle.command_words.specs.Words.{IsInLimits}
 
 -- The answers of `check`: a kernel's fault, too few slots, the bound that the file proves, or why it proves none.
 abbrev pub CheckStatuses : Type 0
 CheckStatuses = (asked : Checking) (input : List ℕ) (file : Option (Option (List ℕ))) (status : Status) (printed : List ℕ) (table : Option (List ℕ))
     → Answers (Some (Check asked)) input file status printed table
-    → (status ≡ Kernel) ⊎ ((status ≡ TooSmall) ⊎ (((status ≡ Done) × IsCertified asked input file status printed table)
-    ⊎ ((status ≡ Refused) × IsRefusedFile asked input file status printed table)))
+    → ((status ≡ Kernel) × IsFaulty input status printed table) ⊎ (((status ≡ TooSmall) × IsTooSmall asked.slots input status printed table)
+    ⊎ (((status ≡ Done) × IsCertified asked input file status printed table) ⊎ ((status ≡ Refused) × IsRefusedFile asked input file status printed table)))
 
 -- Something holds of each answer of `check` to an accepted kernel with more slots than the degree of its graph, and a file with these bytes.
 abbrev pub OfChecks : (PebbleGame → List ℕ → Status → List ℕ → Type 0) → Type 0

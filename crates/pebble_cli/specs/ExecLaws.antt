@@ -5,18 +5,18 @@ use Rattle.comp_graph.specs.Graphs.{GraphParts}
 use Rattle.kernel_ast.specs.KernelParts.{KernelParts}
 use Rattle.scratch_machine.specs.Codes.{CodeParts}
 use Rattle.scratch_machine.specs.Machines.{Ending, Fault, run, transfers}
-use Rattle.pebble_cli.specs.declared.commands.Command.TheVariants.{Plan, Run, Exec}
-use Rattle.pebble_cli.specs.declared.commands.Planning.{Planning}
-use Rattle.pebble_cli.specs.declared.status.Status.{Status}
-use Rattle.pebble_cli.specs.declared.status.Status.TheVariants.{Done, Code, Values, ExecFault}
-use Rattle.pebble_cli.specs.Accepted.{IsAccepted}
+use Rattle.command_words.specs.declared.commands.Command.TheVariants.{Plan, Run, Exec}
+use Rattle.command_words.specs.declared.commands.Planning.{Planning}
+use Rattle.command_answers.specs.declared.status.Status.{Status}
+use Rattle.command_answers.specs.declared.status.Status.TheVariants.{Done, Code, Values, ExecFault}
+use Rattle.command_answers.specs.Accepted.{IsAccepted}
 use Rattle.pebble_cli.specs.Answers.{Answers}
-use Rattle.pebble_cli.specs.CodeInputs.{IsCodeInput, IsNoCode}
-use Rattle.pebble_cli.specs.ExecAnswers.{IsRunToEnd, IsEmptyRead, IsWrongInputs, transfers_text}
-use Rattle.pebble_cli.specs.PlanAnswers.{IsPlanned, run_weight}
-use Rattle.pebble_cli.specs.RunAnswers.{IsValuesFile}
-use Rattle.pebble_cli.specs.ValuesFiles.{HoldsValues, HoldsNone}
-use Rattle.pebble_cli.specs.Words.{IsInLimits}
+use Rattle.command_answers.specs.CodeInputs.{IsCodeInput, IsNoCode}
+use Rattle.command_answers.specs.ExecAnswers.{IsRunToEnd, IsEmptyRead, IsWrongInputs, exec_fault_text, place_of, ran_text, transfers_text}
+use Rattle.command_answers.specs.PlanAnswers.{IsPlanned, run_weight}
+use Rattle.command_answers.specs.RunAnswers.{IsValuesFile}
+use Rattle.command_answers.specs.ValuesFiles.{HoldsValues, HoldsNone, values_fault_text}
+use Rattle.command_words.specs.Words.{IsInLimits}
 
 -- The answers of `exec`: that the input is no code, the outputs of the run, a read of what is empty, or that the file holds no values.
 abbrev pub ExecStatuses : Type 0
@@ -26,22 +26,22 @@ ExecStatuses = (input : List ℕ) (file : Option (Option (List ℕ))) (status : 
     ⊎ (((status ≡ ExecFault) × IsEmptyRead input file status printed table) ⊎ ((status ≡ Values) × IsWrongInputs input file status printed table)))
 
 -- Something holds of each answer of `exec` to an input that is a code and a file with these bytes.
-abbrev pub OfExecs : (CodeParts → List ℕ → Status → Type 0) → Type 0
+abbrev pub OfExecs : (CodeParts → List ℕ → Status → List ℕ → Type 0) → Type 0
 OfExecs P = (input bytes : List ℕ) (status : Status) (printed : List ℕ) (table : Option (List ℕ)) (code : CodeParts)
-    → Answers (Some Exec) input (Some (Some bytes)) status printed table → IsCodeInput input code → P code bytes status
+    → Answers (Some Exec) input (Some (Some bytes)) status printed table → IsCodeInput input code → P code bytes status printed
 
--- It is Done where the file holds a value for each input and the run on these values comes to an end, ExecFault where the run reads what is
--- empty, and Values where the file holds no such values.
+-- It is Done where the file holds a value for each input and the run on these values comes to an end, whose outputs and transfers are printed;
+-- ExecFault where the run reads what is empty, whose place is printed; and Values where the file holds no such values.
 abbrev pub DoneWhereRun : Type 0
-DoneWhereRun = OfExecs (λ code bytes status. (values : List ℤ) (ending : Ending) → HoldsValues (length code.inputs) bytes values
-    → run code values ≡ Ok ending → status ≡ Done)
+DoneWhereRun = OfExecs (λ code bytes status printed. (values : List ℤ) (ending : Ending) → HoldsValues (length code.inputs) bytes values
+    → run code values ≡ Ok ending → (status ≡ Done) × (printed ≡ ran_text code ending))
 
 abbrev pub FaultWhereEmpty : Type 0
-FaultWhereEmpty = OfExecs (λ code bytes status. (values : List ℤ) (fault : Fault) → HoldsValues (length code.inputs) bytes values
-    → run code values ≡ Err fault → status ≡ ExecFault)
+FaultWhereEmpty = OfExecs (λ code bytes status printed. (values : List ℤ) (fault : Fault) → HoldsValues (length code.inputs) bytes values
+    → run code values ≡ Err fault → (status ≡ ExecFault) × (printed ≡ exec_fault_text (place_of fault)))
 
 abbrev pub ValuesWhereWrong : Type 0
-ValuesWhereWrong = OfExecs (λ code bytes status. HoldsNone (length code.inputs) bytes → status ≡ Values)
+ValuesWhereWrong = OfExecs (λ code bytes status printed. HoldsNone (length code.inputs) bytes → (status ≡ Values) × (printed ≡ values_fault_text))
 
 -- What `plan` prints of a kernel, where it has at most 20,000,000 bytes, is the text of its code.
 abbrev pub PlansReadBack : Type 0

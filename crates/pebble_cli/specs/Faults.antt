@@ -1,11 +1,11 @@
--- When a run ends with a read fault, and when the file tells enough to say the answer.
+-- When a run ends with a read fault, that no take was tried in vain, and when the file tells enough to say the answer.
 use Rattle.std.specs.Prelude.{◌≡◌, ℕ, true, List, Option, Some}
 use Rattle.desk_io.specs.declared.desk.Kind.{Kind}
 use Rattle.desk_io.specs.declared.desk.Kind.TheVariants.{TakeInput, TakeFile}
 use Rattle.desk_io.specs.Counts.{Rose}
-use Rattle.pebble_cli.specs.declared.commands.Command.{Command}
+use Rattle.command_words.specs.declared.commands.Command.{Command}
 use Rattle.pebble_cli.specs.Answers.{HasAdmitted}
-use Rattle.pebble_cli.specs.Commands.{reads_input, reads_file}
+use Rattle.command_words.specs.Commands.{reads_input, reads_file}
 
 -- a take failed that the words ask for: one of the input; or one of the file, which is read only where the command reads it and nothing
 -- refuses the input
@@ -13,6 +13,11 @@ pub data ReadCause (command : Option Command) (input : Option (List ℕ)) (befor
   of_input : reads_input command ≡ true → Rose (before TakeInput) (now TakeInput) → ReadCause command input before now
   of_file : (asked : Command) → command ≡ Some asked → reads_file command ≡ true → HasAdmitted asked input
       → Rose (before TakeFile) (now TakeFile) → ReadCause command input before now
+
+-- the counts of the calls that read stay as they were, so none of them was tried in vain
+pub record SameTakeFaults (before now : Kind → ℕ) : Type 0 where
+  pub input : now TakeInput ≡ before TakeInput
+  pub file : now TakeFile ≡ before TakeFile
 
 -- the desk tells the file, if the command reads it
 abbrev pub IsFileTold : Option Command → Option (Option (List ℕ)) → Type 0

@@ -5,15 +5,20 @@ use Rattle.comp_graph.specs.Graphs.{GraphParts, dag_of}
 use Rattle.desk_io.specs.declared.desk.Kind.{Kind}
 use Rattle.kernel_ast.specs.KernelParts.{KernelParts}
 use Rattle.kernel_gen.specs.Trials.{trial_kernel}
-use Rattle.pebble_cli.specs.declared.commands.Command.TheVariants.{Trial}
-use Rattle.pebble_cli.specs.declared.commands.TrialPlanning.{TrialPlanning}
-use Rattle.pebble_cli.specs.declared.status.Status.{Status}
-use Rattle.pebble_cli.specs.declared.status.Status.TheVariants.{Done, TooSmall}
-use Rattle.pebble_cli.specs.Accepted.{IsAccepted}
+use Rattle.plan_report.specs.TrialText.{trial_text}
+use Rattle.potential_cert.specs.Table.{TableParts}
+use Rattle.potential_cert.specs.TableBytes.{table_bytes}
+use Rattle.command_words.specs.declared.commands.Command.TheVariants.{Trial}
+use Rattle.command_words.specs.declared.commands.TrialPlanning.{TrialPlanning}
+use Rattle.command_answers.specs.declared.status.Status.{Status}
+use Rattle.command_answers.specs.declared.status.Status.TheVariants.{Done, TooSmall}
+use Rattle.command_answers.specs.Accepted.{IsAccepted}
 use Rattle.pebble_cli.specs.Answers.{Answers}
 use Rattle.pebble_cli.specs.Faults.{ReadCause}
-use Rattle.pebble_cli.specs.TrialAnswers.{IsTried}
-use Rattle.pebble_cli.specs.Words.{IsInLimits}
+use Rattle.command_answers.specs.PlanAnswers.{PlanNumbers, IsShown, facts_of}
+use Rattle.command_answers.specs.Refusals.{IsTooSmall}
+use Rattle.command_answers.specs.TrialAnswers.{IsTried, planning_of}
+use Rattle.command_words.specs.Words.{IsInLimits}
 
 -- Something holds of each answer of `trial` to numbers in their range.
 abbrev pub OfTrials : (TrialPlanning → Status → List ℕ → Option (List ℕ) → Type 0) → Type 0
@@ -22,12 +27,20 @@ OfTrials P = (asked : TrialPlanning) (input : List ℕ) (file : Option (Option (
 
 -- The answers of `trial`: too few slots, or the lines and the table of a plan. A trial kernel has no fault.
 abbrev pub TrialStatuses : Type 0
-TrialStatuses = OfTrials (λ asked status printed table. (status ≡ TooSmall) ⊎ ((status ≡ Done) × IsTried asked status printed table))
+TrialStatuses = OfTrials (λ asked status printed table.
+    ((status ≡ TooSmall) × IsTooSmall asked.slots (trial_kernel asked.statements) status printed table) ⊎ ((status ≡ Done) × IsTried asked status printed table))
 
 -- Where there are more slots than the degree of the trial kernel's graph, it is Done.
 abbrev pub DoneWhereRoom : Type 0
 DoneWhereRoom = OfTrials (λ asked status printed table. (kernel : KernelParts) (graph : GraphParts) → IsAccepted (trial_kernel asked.statements) kernel graph
     → degree (dag_of graph) < asked.slots → status ≡ Done)
+
+-- There it is what all numbers and each table say that are shown of that graph: the five lines have them, and the table is written. So no
+-- others are shown of it.
+abbrev pub TrialsAreAsShown : Type 0
+TrialsAreAsShown = OfTrials (λ asked status printed table. (kernel : KernelParts) (graph : GraphParts) → IsAccepted (trial_kernel asked.statements) kernel graph
+    → degree (dag_of graph) < asked.slots → (numbers : PlanNumbers) (t : TableParts) → IsShown graph (planning_of asked) numbers t
+    → (printed ≡ trial_text asked.statements (facts_of graph (planning_of asked) numbers)) × (table ≡ Some (table_bytes t)))
 
 -- No take from the input or the file is a cause of a read fault of `trial`.
 abbrev pub NoReadOfTrials : Type 0

@@ -4,7 +4,7 @@ ghost use Rattle.desk_io.specs.declared.desk.Kind.{Kind};
 ghost use Rattle.desk_io.specs.Known.{file_items};
 ghost use Rattle.pebble_cli.specs.Deliver.{Delivered, CutShort, SameWriteFaults};
 
-use crate::answer::Answer;
+use command_answers::answer::Answer;
 use desk_io::{Desk, WriteFault, write_file, write_output};
 
 /// Writes the table to the file, if there is one, and then the text to the output. Where the table is not written whole, nothing is

@@ -1,5 +1,7 @@
 //! Each kind of call of the desk fails in turn, under words that write no file: what is answered and printed, and that the file stays.
-use crate::{Status, file_word, pebble};
+use crate::pebble;
+use command_answers::Status;
+use command_words::file_word;
 use desk_io::{Fail as Failing, Kind, MemoryDesk};
 use std::alloc::{AllocError, Global};
 use std::process::Abort;
@@ -22,17 +24,20 @@ const REFUSED: &str = "refused reason 1 row 0\n";
 
 const TOO_SMALL: &str = "too small needs 2\n";
 
+/// What `judge` and `tidy` print of the kernel on the file `5`, which is no play.
+const NO_PLAY: &str = "play fault line 1\n";
+
 /// What `graph` prints of the kernel.
 const GRAPH: &str = "vertices 2\ninputs 1\ndegree 1\n0 in x\n1 add v0 #1\nout y v1\n";
 
 const USAGE: &str =
-    "usage: pebble plan S TABLE [BUDGET [A B]], check S TABLE [A B], run VALUES, exec VALUES, graph, trial N S TABLE\n";
+    "usage: pebble plan S TABLE [BUDGET [A B]], check S TABLE [A B], run VALUES, exec VALUES, graph, trial N S TABLE, cover S FILE [BUDGET], covercheck S FILE, parts S K FILE [BUDGET], judge S PLAY, tidy S PLAY, cache S TABLE [BUDGET]\n";
 
 /// Words, the kind and the number of the call that fails, and what comes of them.
 #[derive(Clone, Copy)]
 struct Row(&'static str, Kind, u32, Status, &'static str);
 
-const ROWS: [Row; 37] = [
+const ROWS: [Row; 48] = [
     Row("run v", Kind::TakeInput, 0, Status::ReadFault, ""),
     Row("run v", Kind::TakeInput, 36, Status::ReadFault, ""),
     Row("run v", Kind::TakeFile, 0, Status::ReadFault, ""),
@@ -58,6 +63,29 @@ const ROWS: [Row; 37] = [
     Row("check 2 t", Kind::PutOutput, 3, Status::WriteFault, "ref"),
     Row("check 2 t", Kind::PutFile, 0, Status::Refused, REFUSED),
     Row("check 2 t", Kind::ClearFile, 0, Status::Refused, REFUSED),
+    Row("covercheck 2 t", Kind::TakeFile, 0, Status::ReadFault, ""),
+    Row(
+        "covercheck 1 t",
+        Kind::TakeFile,
+        0,
+        Status::TooSmall,
+        TOO_SMALL,
+    ),
+    Row(
+        "covercheck 2 t",
+        Kind::PutOutput,
+        3,
+        Status::WriteFault,
+        "ref",
+    ),
+    Row("covercheck 2 t", Kind::PutFile, 0, Status::Refused, REFUSED),
+    Row("judge 2 p", Kind::TakeFile, 1, Status::ReadFault, ""),
+    Row("judge 1 p", Kind::TakeFile, 0, Status::TooSmall, TOO_SMALL),
+    Row("judge 2 p", Kind::PutOutput, 3, Status::WriteFault, "pla"),
+    Row("judge 2 p", Kind::ClearFile, 0, Status::Play, NO_PLAY),
+    Row("tidy 2 p", Kind::TakeFile, 0, Status::ReadFault, ""),
+    Row("tidy 2 p", Kind::PutOutput, 0, Status::WriteFault, ""),
+    Row("tidy 2 p", Kind::PutFile, 0, Status::Play, NO_PLAY),
     Row("graph", Kind::TakeInput, 0, Status::ReadFault, ""),
     Row("graph", Kind::TakeInput, 36, Status::ReadFault, ""),
     Row("graph", Kind::TakeFile, 0, Status::Done, GRAPH),

@@ -1,50 +1,57 @@
 //! The whole answer of a run, before anything is written.
-ghost use Rattle.std.specs.Prelude.{◌≡◌, ◌≢◌, ◌⊎◌, ◌<◌, ◌≤◌, ℕ, List, length, true, false, IfOk, IfErr, Err, Some};
+ghost use Rattle.std.specs.Prelude.{◌≡◌, ◌≢◌, ◌⊎◌, ◌<◌, ◌≤◌, ℕ, List, Option, length, true, false, IfOk, IfErr, Err, Some};
 ghost use Rattle.comp_graph.specs.Dags.{degree};
 ghost use Rattle.comp_graph.specs.Games.{AreWeights};
 ghost use Rattle.comp_graph.specs.Graphs.{dag_of};
 ghost use Rattle.desk_io.specs.declared.desk.Kind.{Kind};
-ghost use Rattle.scratch_machine.specs.Codes.{CodeParts};
 ghost use Rattle.desk_io.specs.Counts.{Rose};
 ghost use Rattle.desk_io.specs.Known.{input_end};
 ghost use Rattle.kernel_ast.specs.KernelParts.{KernelParts};
-ghost use Rattle.pebble_cli.specs.declared.commands.Subject.{Subject};
-ghost use Rattle.pebble_cli.specs.declared.status.Status.{Status};
-ghost use Rattle.pebble_cli.specs.Accepted.{IsAccepted};
-ghost use Rattle.pebble_cli.specs.Answers.{Answers, IsAdmitted};
-ghost use Rattle.pebble_cli.specs.CheckAnswers.{Checks};
-ghost use Rattle.pebble_cli.specs.CodeInputs.{IsCodeInput, IsNoCode};
-ghost use Rattle.pebble_cli.specs.Commands.{subject, kernel_text, reads_input, reads_file};
+ghost use Rattle.scratch_machine.specs.Codes.{CodeParts};
+ghost use Rattle.command_words.specs.declared.commands.Subject.{Subject};
+ghost use Rattle.command_words.specs.Commands.{subject, slots_of, played_weights, reads_input, reads_file};
+ghost use Rattle.command_words.specs.Words.{asked_by, IsInLimits};
+ghost use Rattle.command_answers.specs.declared.status.Status.{Status};
+ghost use Rattle.command_answers.specs.Accepted.{IsAccepted};
+ghost use Rattle.command_answers.specs.CodeInputs.{IsCodeInput, IsNoCode};
+ghost use Rattle.command_answers.specs.ExecAnswers.{Executes};
+ghost use Rattle.command_answers.specs.MadeAnswers.{Meets, IfAnswer, IsFileOf};
+ghost use Rattle.command_answers.specs.Refusals.{IsTooSmall};
+ghost use Rattle.command_answers.specs.RunAnswers.{Runs};
+ghost use Rattle.command_answers.specs.Status.{IsOfRead};
+ghost use Rattle.command_answers.specs.Subjects.{kernel_text};
+ghost use Rattle.pebble_cli.specs.Answers.{Answers, LastAnswers, IsAdmitted};
 ghost use Rattle.pebble_cli.specs.Deliver.{SameWriteFaults};
-ghost use Rattle.pebble_cli.specs.ExecAnswers.{Executes};
-ghost use Rattle.pebble_cli.specs.Faults.{ReadCause};
-ghost use Rattle.pebble_cli.specs.MadeAnswers.{Meets, IfAnswer, AnswersInput};
-ghost use Rattle.pebble_cli.specs.Refusals.{IsTooSmall};
-ghost use Rattle.pebble_cli.specs.RunAnswers.{Runs};
-ghost use Rattle.pebble_cli.specs.Status.{IsOfRead};
-ghost use Rattle.pebble_cli.specs.Words.{asked_by, IsInLimits};
+ghost use Rattle.pebble_cli.specs.Faults.{ReadCause, SameTakeFaults};
+ghost use Rattle.pebble_cli.specs.InputAnswers.{AnswersInput};
 
-use crate::answer::check::{TABLE_LIMIT, check_answer};
-use crate::answer::code_fault::readable_code;
-use crate::answer::exec::exec_answer;
-use crate::answer::graph::graph_answer;
-use crate::answer::kernel_fault::accepted_kernel;
-use crate::answer::plan::plan_answer;
-use crate::answer::run::run_answer;
-use crate::answer::too_small::played_game;
-use crate::answer::trial::trial_answer;
-use crate::answer::usage::usage_answer;
-use crate::answer::values::VALUES_LIMIT;
-use crate::answer::{Answer, EarlyEnd};
-use crate::commands::{Checking, Command, Subject};
-use crate::kernel::Accepted;
 use crate::reading::{code_input, file_bytes, kernel_input};
-use crate::status::Status;
-use crate::words::read;
-use comp_graph::{Game, Graph};
+use command_answers::cache::cache_answer;
+use command_answers::check::check_answer;
+use command_answers::code_fault::readable_code;
+use command_answers::cover::cover_answer;
+use command_answers::cover_check::cover_check_answer;
+use command_answers::exec::exec_answer;
+use command_answers::graph::graph_answer;
+use command_answers::judge::judge_answer;
+use command_answers::kernel_fault::accepted_kernel;
+use command_answers::parts::parts_answer;
+use command_answers::plan::plan_answer;
+use command_answers::run::run_answer;
+use command_answers::tidy::tidy_answer;
+use command_answers::too_small::played_game;
+use command_answers::trial::trial_answer;
+use command_answers::usage::usage_answer;
+use command_answers::values::VALUES_LIMIT;
+use command_answers::{Accepted, Answer, EarlyEnd, FileBytes, Status};
+use command_words::{Command, Subject, UNIT_WEIGHTS, read};
+use comp_graph::{Game, Graph, NoMemory, Weights};
 use desk_io::Desk;
 use kernel_gen::trial;
 use std::alloc::Global;
+
+/// The most bytes of a table, a table with names or a play in the file.
+const GAME_FILE_LIMIT: u32 = 20_000_000;
 
 // The answer of `run` to an accepted kernel and what its file holds.
 fn run_on_file<D: Desk>(
@@ -57,6 +64,7 @@ fn run_on_file<D: Desk>(
         IfAnswer result (Meets (Runs text (D.file desk.old))) }
     ensures fault { result ≡ Err EarlyEnd.ReadFault →
         Rose (D.faults desk.old Kind.TakeFile) (D.faults desk.new Kind.TakeFile) }
+    ensures no_vain_take { result ≢ Err EarlyEnd.ReadFault → SameTakeFaults (D.faults desk.old) (D.faults desk.new) }
     ensures write_faults { SameWriteFaults (D.faults desk.old) (D.faults desk.new) }
     ensures same_name { D.name desk.new ≡ D.name desk.old }
     ensures same_input { D.input desk.new ≡ D.input desk.old }
@@ -74,6 +82,7 @@ fn exec_on_file<D: Desk>(alloc: Global, desk: &mut D, text: &[u8]) -> Result<Ans
         Meets (IsNoCode text.now) answer ⊎ Meets (Executes text.now (D.file desk.old)) answer) }
     ensures fault { result ≡ Err EarlyEnd.ReadFault → ((code : CodeParts) × IsCodeInput text.now code)
         × Rose (D.faults desk.old Kind.TakeFile) (D.faults desk.new Kind.TakeFile) }
+    ensures no_vain_take { result ≢ Err EarlyEnd.ReadFault → SameTakeFaults (D.faults desk.old) (D.faults desk.new) }
     ensures write_faults { SameWriteFaults (D.faults desk.old) (D.faults desk.new) }
     ensures same_name { D.name desk.new ≡ D.name desk.old }
     ensures same_input { D.input desk.new ≡ D.input desk.old }
@@ -85,53 +94,86 @@ fn exec_on_file<D: Desk>(alloc: Global, desk: &mut D, text: &[u8]) -> Result<Ans
     Ok(exec_answer(alloc, &code, &values)?)
 }
 
-// The answer of `check` to the game of an accepted kernel and what its file holds.
-fn check_on_file<D: Desk>(
+// The answer of a command that reads a file for a game, to what the file holds.
+fn file_answer(
+    alloc: Global,
+    game: &Game,
+    command: Command,
+    file: &FileBytes,
+) -> Result<Answer, NoMemory>
+    requires reads { reads_file (Some command) ≡ true }
+    requires slots { slots_of command ≡ Some game.now.slots }
+    requires weights { game.now.weights ≡ played_weights command }
+    requires room { degree (dag_of game.now.graph) < game.now.slots }
+    requires limit { (told : Option (Option (List ℕ))) × IsFileOf told 20000000 file.now }
+    ensures { IfOk result (λ answer. (text : List ℕ) (kernel : KernelParts) (told : Option (Option (List ℕ))) →
+        IsAccepted text kernel game.now.graph → IsFileOf told 20000000 file.now → Meets (LastAnswers command text told) answer) }
+{
+    match command {
+        Command::Check(asked) => check_answer(alloc, game, asked, file),
+        Command::Judge(_) => judge_answer(alloc, game, file),
+        Command::Tidy(_) => tidy_answer(alloc, game, file),
+        Command::CoverCheck(_) => cover_check_answer(alloc, game, file),
+        // No other command has slots and reads a file.
+        _ => unreachable!(),
+    }
+}
+
+// The same where the file is still to be read.
+fn game_on_file<D: Desk>(
     alloc: Global,
     desk: &mut D,
     game: &Game,
-    asked: Checking,
+    command: Command,
 ) -> Result<Answer, EarlyEnd>
-    requires slots { game.now.slots ≡ asked.slots }
-    requires weights { game.now.weights ≡ asked.weights }
-    requires room { degree (dag_of game.now.graph) < asked.slots }
+    requires reads { reads_file (Some command) ≡ true }
+    requires slots { slots_of command ≡ Some game.now.slots }
+    requires weights { game.now.weights ≡ played_weights command }
+    requires room { degree (dag_of game.now.graph) < game.now.slots }
     ensures answers { (text : List ℕ) (kernel : KernelParts) → IsAccepted text kernel game.now.graph →
-        IfAnswer result (Meets (Checks asked text (D.file desk.old))) }
+        IfAnswer result (Meets (LastAnswers command text (D.file desk.old))) }
     ensures fault { result ≡ Err EarlyEnd.ReadFault →
         Rose (D.faults desk.old Kind.TakeFile) (D.faults desk.new Kind.TakeFile) }
+    ensures no_vain_take { result ≢ Err EarlyEnd.ReadFault → SameTakeFaults (D.faults desk.old) (D.faults desk.new) }
     ensures write_faults { SameWriteFaults (D.faults desk.old) (D.faults desk.new) }
     ensures same_name { D.name desk.new ≡ D.name desk.old }
     ensures same_input { D.input desk.new ≡ D.input desk.old }
     ensures same_file { D.file desk.new ≡ D.file desk.old }
     ensures same_output { D.output desk.new ≡ D.output desk.old }
 {
-    let table = file_bytes(alloc, desk, TABLE_LIMIT)?;
-    Ok(check_answer(alloc, game, asked, &table)?)
+    let file = file_bytes(alloc, desk, GAME_FILE_LIMIT)?;
+    Ok(file_answer(alloc, game, command, &file)?)
 }
 
-// The answer of `check` to an accepted kernel by its graph: that more slots are needed, or what its file proves. The file is read only where
-// the slots are enough.
-fn check_graph<D: Desk>(
+// The answer of a command that reads a file for a game, to an accepted kernel by its graph: that more slots are needed, or its own. The
+// file is read only where the slots are enough.
+fn graph_on_file<D: Desk>(
     alloc: Global,
     desk: &mut D,
     graph: Graph,
-    asked: Checking,
+    command: Command,
+    slots: u16,
+    weights: Weights,
 ) -> Result<Answer, EarlyEnd>
-    requires some { 0 < asked.slots }
-    requires few { asked.slots ≤ 64 }
-    requires weights { AreWeights asked.weights }
+    requires reads { reads_file (Some command) ≡ true }
+    requires slots { slots_of command ≡ Some slots }
+    requires weights { weights ≡ played_weights command }
+    requires some { 0 < slots }
+    requires few { slots ≤ 64 }
+    requires limits { AreWeights weights }
     ensures answers { (text : List ℕ) (kernel : KernelParts) → IsAccepted text kernel graph →
-        IfAnswer result (λ answer. Meets (IsTooSmall asked.slots text) answer ⊎ Meets (Checks asked text (D.file desk.old)) answer) }
-    ensures fault { result ≡ Err EarlyEnd.ReadFault → (degree (dag_of graph) < asked.slots)
+        IfAnswer result (λ answer. Meets (IsTooSmall slots text) answer ⊎ Meets (LastAnswers command text (D.file desk.old)) answer) }
+    ensures fault { result ≡ Err EarlyEnd.ReadFault → (degree (dag_of graph) < slots)
         × Rose (D.faults desk.old Kind.TakeFile) (D.faults desk.new Kind.TakeFile) }
+    ensures no_vain_take { result ≢ Err EarlyEnd.ReadFault → SameTakeFaults (D.faults desk.old) (D.faults desk.new) }
     ensures write_faults { SameWriteFaults (D.faults desk.old) (D.faults desk.new) }
     ensures same_name { D.name desk.new ≡ D.name desk.old }
     ensures same_input { D.input desk.new ≡ D.input desk.old }
     ensures same_file { D.file desk.new ≡ D.file desk.old }
     ensures same_output { D.output desk.new ≡ D.output desk.old }
 {
-    let game = played_game(alloc, graph, asked.slots, asked.weights)?;
-    check_on_file(alloc, desk, &game, asked)
+    let game = played_game(alloc, graph, slots, weights)?;
+    game_on_file(alloc, desk, &game, command)
 }
 
 // The answer of a command to the text of its kernel. The file is read where the command reads one and nothing refuses it.
@@ -148,6 +190,7 @@ fn kernel_answer<D: Desk>(
     ensures fault { (input : List ℕ) → kernel_text (subject command) input ≡ Some text.now →
         result ≡ Err EarlyEnd.ReadFault → (reads_file (Some command) ≡ true) × IsAdmitted command input
         × Rose (D.faults desk.old Kind.TakeFile) (D.faults desk.new Kind.TakeFile) }
+    ensures no_vain_take { result ≢ Err EarlyEnd.ReadFault → SameTakeFaults (D.faults desk.old) (D.faults desk.new) }
     ensures write_faults { SameWriteFaults (D.faults desk.old) (D.faults desk.new) }
     ensures same_name { D.name desk.new ≡ D.name desk.old }
     ensures same_input { D.input desk.new ≡ D.input desk.old }
@@ -157,12 +200,27 @@ fn kernel_answer<D: Desk>(
     let accepted = accepted_kernel(alloc, text)?;
     match command {
         Command::Plan(asked) => plan_answer(alloc, accepted.graph, asked),
-        Command::Check(asked) => check_graph(alloc, desk, accepted.graph, asked),
+        Command::Check(asked) => {
+            let (slots, weights) = (asked.slots, asked.weights);
+            graph_on_file(alloc, desk, accepted.graph, command, slots, weights)
+        }
+        Command::CoverCheck(slots) => {
+            graph_on_file(alloc, desk, accepted.graph, command, slots, UNIT_WEIGHTS)
+        }
+        Command::Judge(slots) => {
+            graph_on_file(alloc, desk, accepted.graph, command, slots, UNIT_WEIGHTS)
+        }
+        Command::Tidy(slots) => {
+            graph_on_file(alloc, desk, accepted.graph, command, slots, UNIT_WEIGHTS)
+        }
         Command::Run => run_on_file(alloc, desk, &accepted),
         // Its subject is no kernel.
         Command::Exec => unreachable!(),
         Command::Graph => graph_answer(alloc, &accepted.graph),
         Command::Trial(asked) => trial_answer(alloc, accepted.graph, asked),
+        Command::Cover(asked) => cover_answer(alloc, accepted.graph, asked),
+        Command::Parts(asked) => parts_answer(alloc, accepted.graph, asked),
+        Command::Cache(asked) => cache_answer(alloc, accepted.graph, asked),
     }
 }
 
@@ -179,6 +237,7 @@ fn command_answer<D: Desk>(
     ensures read_whole { reads_input (Some command) ≡ true →
         IfAnswer result (λ answer. IsOfRead answer.status → D.input desk.new ≡ input_end (D.input desk.old)) }
     ensures untouched { reads_input (Some command) ≡ false → D.input desk.new ≡ D.input desk.old }
+    ensures no_vain_take { result ≢ Err EarlyEnd.ReadFault → SameTakeFaults (D.faults desk.old) (D.faults desk.new) }
     ensures write_faults { SameWriteFaults (D.faults desk.old) (D.faults desk.new) }
     ensures same_name { D.name desk.new ≡ D.name desk.old }
     ensures same_file { D.file desk.new ≡ D.file desk.old }
@@ -212,6 +271,7 @@ pub fn prepare<D: Desk>(alloc: Global, words: &[String], desk: &mut D) -> Result
     ensures read_whole { reads_input (asked_by words.now) ≡ true →
         IfOk result (λ answer. IsOfRead answer.status → D.input desk.new ≡ input_end (D.input desk.old)) }
     ensures untouched { reads_input (asked_by words.now) ≡ false → D.input desk.new ≡ D.input desk.old }
+    ensures no_vain_take { result ≢ Err Status.ReadFault → SameTakeFaults (D.faults desk.old) (D.faults desk.new) }
     ensures write_faults { SameWriteFaults (D.faults desk.old) (D.faults desk.new) }
     ensures same_name { D.name desk.new ≡ D.name desk.old }
     ensures same_file { D.file desk.new ≡ D.file desk.old }

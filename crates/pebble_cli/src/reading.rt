@@ -1,16 +1,17 @@
 //! What is read before an answer is made: the input, and the file for each command that reads one. Nothing is written.
-ghost use Rattle.std.specs.Prelude.{◌≡◌, ◌≤◌, ℕ, List, IfOk, OnOk, Err, length};
+ghost use Rattle.std.specs.Prelude.{◌≡◌, ◌≢◌, ◌≤◌, ℕ, List, IfOk, OnOk, Err, length};
 ghost use Rattle.desk_io.specs.declared.desk.Kind.{Kind};
 ghost use Rattle.desk_io.specs.Counts.{Rose};
 ghost use Rattle.desk_io.specs.Known.{Tells, input_end};
-ghost use Rattle.pebble_cli.specs.CodeInputs.{IsNoCode};
-ghost use Rattle.pebble_cli.specs.MadeAnswers.{Meets, IfRefused, IsFileOf};
+ghost use Rattle.command_answers.specs.CodeInputs.{IsNoCode};
+ghost use Rattle.command_answers.specs.MadeAnswers.{Meets, IfRefused, IsFileOf};
 ghost use Rattle.pebble_cli.specs.Deliver.{SameWriteFaults};
-ghost use Rattle.pebble_cli.specs.Refusals.{IsFaulty};
+ghost use Rattle.pebble_cli.specs.Faults.{SameTakeFaults};
+ghost use Rattle.command_answers.specs.Refusals.{IsFaulty};
 
-use crate::answer::code_fault::code_fault_answer;
-use crate::answer::kernel_fault::kernel_fault_answer;
-use crate::answer::{EarlyEnd, FileBytes};
+use command_answers::answer::{EarlyEnd, FileBytes};
+use command_answers::code_fault::code_fault_answer;
+use command_answers::kernel_fault::kernel_fault_answer;
 use desk_io::{Desk, ReadEnd, read_file, read_input};
 use kernel_parser::MAX_LENGTH;
 use std::alloc::Global;
@@ -35,6 +36,7 @@ pub fn kernel_input<D: Desk>(alloc: Global, desk: &mut D) -> Result<Vec<u8>, Ear
     ensures fault { result ≡ Err EarlyEnd.ReadFault →
         Rose (D.faults desk.old Kind.TakeInput) (D.faults desk.new Kind.TakeInput) }
     ensures same_takes { D.faults desk.new Kind.TakeFile ≡ D.faults desk.old Kind.TakeFile }
+    ensures no_vain_take { result ≢ Err EarlyEnd.ReadFault → SameTakeFaults (D.faults desk.old) (D.faults desk.new) }
     ensures write_faults { SameWriteFaults (D.faults desk.old) (D.faults desk.new) }
     ensures same_name { D.name desk.new ≡ D.name desk.old }
     ensures same_file { D.file desk.new ≡ D.file desk.old }
@@ -67,6 +69,7 @@ pub fn code_input<D: Desk>(alloc: Global, desk: &mut D) -> Result<Vec<u8>, Early
     ensures fault { result ≡ Err EarlyEnd.ReadFault →
         Rose (D.faults desk.old Kind.TakeInput) (D.faults desk.new Kind.TakeInput) }
     ensures same_takes { D.faults desk.new Kind.TakeFile ≡ D.faults desk.old Kind.TakeFile }
+    ensures no_vain_take { result ≢ Err EarlyEnd.ReadFault → SameTakeFaults (D.faults desk.old) (D.faults desk.new) }
     ensures write_faults { SameWriteFaults (D.faults desk.old) (D.faults desk.new) }
     ensures same_name { D.name desk.new ≡ D.name desk.old }
     ensures same_file { D.file desk.new ≡ D.file desk.old }
@@ -90,6 +93,7 @@ pub fn file_bytes<D: Desk>(alloc: Global, desk: &mut D, limit: u32) -> Result<Fi
     ensures not_refused { IfRefused result (λ answer. ⊥) }
     ensures fault { result ≡ Err EarlyEnd.ReadFault →
         Rose (D.faults desk.old Kind.TakeFile) (D.faults desk.new Kind.TakeFile) }
+    ensures no_vain_take { result ≢ Err EarlyEnd.ReadFault → SameTakeFaults (D.faults desk.old) (D.faults desk.new) }
     ensures write_faults { SameWriteFaults (D.faults desk.old) (D.faults desk.new) }
     ensures same_name { D.name desk.new ≡ D.name desk.old }
     ensures same_input { D.input desk.new ≡ D.input desk.old }

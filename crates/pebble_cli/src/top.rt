@@ -5,21 +5,21 @@ ghost use Rattle.std.specs.Io.KnownBytes.{append_known};
 ghost use Rattle.desk_io.specs.declared.desk.Kind.{Kind};
 ghost use Rattle.desk_io.specs.Counts.{Rose};
 ghost use Rattle.desk_io.specs.Known.{Tells, file_of, input_end};
-ghost use Rattle.pebble_cli.specs.declared.commands.Command.{Command};
-ghost use Rattle.pebble_cli.specs.declared.commands.Command.TheVariants.{Plan};
-ghost use Rattle.pebble_cli.specs.declared.commands.Planning.{Planning};
-ghost use Rattle.pebble_cli.specs.declared.status.Status.{Status};
-ghost use Rattle.pebble_cli.specs.Answers.{Answers, IsAdmitted};
-ghost use Rattle.pebble_cli.specs.Commands.{reads_input, reads_file, writes_file};
+ghost use Rattle.command_words.specs.declared.commands.Command.{Command};
+ghost use Rattle.command_words.specs.declared.commands.Command.TheVariants.{Plan};
+ghost use Rattle.command_words.specs.declared.commands.Planning.{Planning};
+ghost use Rattle.command_answers.specs.declared.status.Status.{Status};
+ghost use Rattle.pebble_cli.specs.Answers.{Answers, LastAnswers, IsAdmitted};
+ghost use Rattle.command_words.specs.Commands.{reads_input, reads_file, writes_file};
 ghost use Rattle.pebble_cli.specs.Deliver.{Delivered, CutShort, SameWriteFaults};
-ghost use Rattle.pebble_cli.specs.Faults.{ReadCause, IsFileTold};
-ghost use Rattle.pebble_cli.specs.PlanAnswers.{IsPlanned};
-ghost use Rattle.pebble_cli.specs.Status.{IsOfRead, IsYielded, is_last};
-ghost use Rattle.pebble_cli.specs.Words.{asked_by, file_named_by};
+ghost use Rattle.pebble_cli.specs.Faults.{ReadCause, SameTakeFaults, IsFileTold};
+ghost use Rattle.command_answers.specs.PlanAnswers.{IsPlanned};
+ghost use Rattle.command_answers.specs.Status.{IsOfRead, IsYielded, is_last};
+ghost use Rattle.command_words.specs.Words.{asked_by, file_named_by};
 
 use crate::deliver::deliver;
 use crate::prepare::prepare;
-use crate::status::Status;
+use command_answers::Status;
 use desk_io::{Desk, HonestDesk, WriteFault};
 use std::alloc::Global;
 
@@ -27,8 +27,8 @@ use std::alloc::Global;
 ///
 /// First the words are read, the input if they spell a command that reads it, and the file where the command reads it, and the whole
 /// answer is made, which takes all memory; then the table, if there is one, is written to the file, and last the text to the output. What
-/// is said of bytes holds where the desk tells them. `Answers` says what is answered; the laws of `laws::answers` say that it has
-/// one status, and where each refusal comes, and a file of laws for each command where its own statuses come.
+/// is said of bytes holds where the desk tells them. `Answers` says what is answered; the laws of `laws::answers` say that it is
+/// one answer, and where each refusal comes, and a file of laws for each command where its own statuses come.
 pub fn pebble<D: Desk>(alloc: Global, words: &[String], desk: &mut D) -> Status
     requires { D.name desk.old ≡ file_named_by words.now }
 
@@ -40,17 +40,25 @@ pub fn pebble<D: Desk>(alloc: Global, words: &[String], desk: &mut D) -> Status
         × (D.output desk.new ≡ append_known (D.output desk.old) printed)
         × (D.file desk.new ≡ file_of (D.file desk.old) table) }
 
+    // A command's own answer, of whichever command: a text was read that nothing refuses, what the command's definition asks for was printed
+    // and written whole, and the status is its own. So the definition of each command is a promise of this call, as that of `plan` is.
+    ensures own { (asked : Command) → asked_by words.now ≡ Some asked → is_last result ≡ true →
+        (text : List ℕ) × (printed : List ℕ) × (table : Option (List ℕ)) × Tells (D.input desk.old) text × IsAdmitted asked text
+        × LastAnswers asked text (D.file desk.old) result printed table × Delivered D.file D.output desk.old desk.new printed table }
+
     // The whole answer was delivered: the text that was read, and what answers it, printed and written whole.
     ensures said { result ≢ Status.ReadFault → result ≢ Status.WriteFault → result ≢ Status.NoMemory →
         (text : List ℕ) × (printed : List ℕ) × (table : Option (List ℕ)) × Tells (D.input desk.old) text
         × Answers (asked_by words.now) text (D.file desk.old) result printed table
         × Delivered D.file D.output desk.old desk.new printed table }
 
-    // Where the desk tells the input, and for a command's own answer the file that it reads, each answer is the one that comes, but for
-    // faults of the desk and of memory.
+    // Where the desk tells the input, if the command reads it, and for a command's own answer the file that it reads, each answer is the one
+    // that comes, but for faults of the desk and of memory; and where it comes it is printed and written whole.
     ensures determined { (text : List ℕ) (status : Status) (printed : List ℕ) (table : Option (List ℕ)) →
-        D.input desk.old ≡ Some text → (is_last status ≡ true → IsFileTold (asked_by words.now) (D.file desk.old)) →
-        Answers (asked_by words.now) text (D.file desk.old) status printed table → IsYielded result status }
+        (reads_input (asked_by words.now) ≡ true → D.input desk.old ≡ Some text) →
+        (is_last status ≡ true → IsFileTold (asked_by words.now) (D.file desk.old)) →
+        Answers (asked_by words.now) text (D.file desk.old) status printed table →
+        IsYielded result status × (result ≡ status → Delivered D.file D.output desk.old desk.new printed table) }
 
     // A write failed: there was an answer with a status of its own, and a prefix of it was written.
     ensures write_fault { result ≡ Status.WriteFault →
@@ -73,14 +81,18 @@ pub fn pebble<D: Desk>(alloc: Global, words: &[String], desk: &mut D) -> Status
         (D.file desk.new ≡ D.file desk.old) × (D.output desk.new ≡ D.output desk.old)
         × SameWriteFaults (D.faults desk.old) (D.faults desk.new) }
 
-    // Complete: where the desk tells an input that nothing refuses, and no call of the desk fails, an answer of the command's own comes, or
-    // memory was not found.
-    ensures complete { (asked : Command) (text : List ℕ) → asked_by words.now ≡ Some asked → D.input desk.old ≡ Some text →
+    // Complete: where nothing refuses the input, which the desk tells if the command reads it, and no call of the desk fails, an answer of the
+    // command's own comes, or memory was not found.
+    ensures complete { (asked : Command) (text : List ℕ) → asked_by words.now ≡ Some asked →
+        (reads_input (asked_by words.now) ≡ true → D.input desk.old ≡ Some text) →
         IsAdmitted asked text → ((kind : Kind) → Rose (D.faults desk.old kind) (D.faults desk.new kind) → ⊥) →
         (is_last result ≡ true) ⊎ (result ≡ Status.NoMemory) }
 
     // No write was tried in vain, but where a write fault is answered.
     ensures no_vain_write { result ≢ Status.WriteFault → SameWriteFaults (D.faults desk.old) (D.faults desk.new) }
+
+    // No take was tried in vain, but where a read fault is answered.
+    ensures no_vain_take { result ≢ Status.ReadFault → SameTakeFaults (D.faults desk.old) (D.faults desk.new) }
 
     // Where no call of the desk fails, there is no read fault and no write fault.
     ensures calm { ((kind : Kind) → Rose (D.faults desk.old kind) (D.faults desk.new kind) → ⊥) →
@@ -96,12 +108,14 @@ pub fn pebble<D: Desk>(alloc: Global, words: &[String], desk: &mut D) -> Status
         D.input desk.new ≡ input_end (D.input desk.old) }
     ensures untouched { reads_input (asked_by words.now) ≡ false → D.input desk.new ≡ D.input desk.old }
 
-    // The file changes only where the command writes it, with an answer of its own or a write fault, and where nothing refuses the input.
+    // The file changes only where the command writes it, with an answer of its own or a write fault, and where nothing refuses the input, which
+    // the desk tells if the command reads it.
     ensures file_kept { writes_file (asked_by words.now) ≡ false → D.file desk.new ≡ D.file desk.old }
     ensures refusals_keep { is_last result ≡ false → result ≢ Status.WriteFault →
         D.file desk.new ≡ D.file desk.old }
     ensures refused_keep { (asked : Command) (text : List ℕ) → asked_by words.now ≡ Some asked →
-        D.input desk.old ≡ Some text → (IsAdmitted asked text → ⊥) → D.file desk.new ≡ D.file desk.old }
+        (reads_input (asked_by words.now) ≡ true → D.input desk.old ≡ Some text) →
+        (IsAdmitted asked text → ⊥) → D.file desk.new ≡ D.file desk.old }
     ensures same_name { D.name desk.new ≡ D.name desk.old }
 {
     let answer = match prepare(alloc, words, desk) {
@@ -120,6 +134,9 @@ pub fn pebble_honest(alloc: Global, words: &[String], desk: &mut HonestDesk) -> 
     ensures no_fault { (result ≢ Status.ReadFault) × (result ≢ Status.WriteFault) }
     ensures answered { result ≢ Status.NoMemory → (printed : List ℕ) × (table : Option (List ℕ))
         × Answers (asked_by words.now) desk.old.input.items None result printed table }
+    // Where nothing refuses the input, an answer of the command's own comes, or memory was not found.
+    ensures complete { (asked : Command) → asked_by words.now ≡ Some asked → IsAdmitted asked desk.old.input.items →
+        (is_last result ≡ true) ⊎ (result ≡ Status.NoMemory) }
 {
     pebble(alloc, words, desk)
 }

@@ -4,12 +4,12 @@ mod arrays;
 mod branches;
 mod scalars;
 
+use command_answers::Status;
 use comp_graph::{Game, Graph, Weights};
 use example_runs::run_line;
 use first_plan::first;
 use kernel_parser::parse;
 use loop_unroll::unroll;
-use pebble_cli::Status;
 use scratch_machine::{Code, exec};
 use slot_alloc::emit;
 use std::alloc::Global;

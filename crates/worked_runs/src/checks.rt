@@ -1,7 +1,7 @@
 //! The command `check`: tables that were worked out by hand, accepted and refused; a table that is cut or changed byte by byte; and tables that
 //! `plan` wrote.
+use command_answers::Status;
 use example_runs::{run_line, run_on, words_of};
-use pebble_cli::Status;
 use std::alloc::Global;
 use std::process::Abort;
 use std::test::Fail;
@@ -309,7 +309,7 @@ const ROWS: [Row; 32] = [
 ];
 
 const USAGE: &str =
-    "usage: pebble plan S TABLE [BUDGET [A B]], check S TABLE [A B], run VALUES, exec VALUES, graph, trial N S TABLE\n";
+    "usage: pebble plan S TABLE [BUDGET [A B]], check S TABLE [A B], run VALUES, exec VALUES, graph, trial N S TABLE, cover S FILE [BUDGET], covercheck S FILE, parts S K FILE [BUDGET], judge S PLAY, tidy S PLAY, cache S TABLE [BUDGET]\n";
 
 // Adds a number of four bytes and one of eight, each of which is below 256.
 fn add_word(bytes: &mut Vec<u8>, zeros: usize, number: u8) -> Result<(), Fail> {

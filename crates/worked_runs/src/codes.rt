@@ -1,6 +1,6 @@
 //! Codes that `exec` runs, also altered ones, with what it prints of them.
+use command_answers::Status;
 use example_runs::run_line;
-use pebble_cli::Status;
 use std::alloc::{AllocError, Global};
 use std::process::Abort;
 use std::test::Fail;

@@ -1,7 +1,9 @@
 //! The commands `run`, `graph`, `plan` and `exec` on one input each: what is printed, the status, and the file that is left.
+use command_answers::Status;
+use command_words::file_word;
 use desk_io::HonestDesk;
 use example_runs::{run_line, run_on, words_of};
-use pebble_cli::{Status, file_word, pebble};
+use pebble_cli::pebble;
 use std::alloc::Global;
 use std::process::Abort;
 use std::test::Fail;

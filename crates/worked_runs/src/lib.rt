@@ -2,15 +2,21 @@
 #![tactic(auto)]
 
 #[cfg(test)]
+mod beside_plans;
+#[cfg(test)]
 mod checks;
 #[cfg(test)]
 mod codes;
 #[cfg(test)]
 mod commands;
 #[cfg(test)]
+mod covers;
+#[cfg(test)]
 mod outputs;
 #[cfg(test)]
 mod plans;
+#[cfg(test)]
+mod plays;
 #[cfg(test)]
 mod searches;
 #[cfg(test)]

@@ -1,6 +1,6 @@
 //! Kernels that are run on values, with the values of their outputs.
+use command_answers::Status;
 use example_runs::run_line;
-use pebble_cli::Status;
 use std::alloc::Global;
 use std::process::Abort;
 use std::test::Fail;

@@ -1,7 +1,7 @@
 //! The worked examples as tables.
+use command_answers::Status;
 use desk_io::{Fail, Kind};
 use example_runs::{run_line, run_on, words_of};
-use pebble_cli::Status;
 use std::alloc::{AllocError, Global};
 use std::process::Abort;
 use std::test::Fail as TestFail;
@@ -17,7 +17,7 @@ const P_PRINTED: &str =
 const P_TABLE: [u8; 18] = [82, 66, 80, 84, 0, 1, 0, 2, 0, 2, 0, 0, 0, 2, 0, 0, 0, 0];
 
 const USAGE: &str =
-    "usage: pebble plan S TABLE [BUDGET [A B]], check S TABLE [A B], run VALUES, exec VALUES, graph, trial N S TABLE\n";
+    "usage: pebble plan S TABLE [BUDGET [A B]], check S TABLE [A B], run VALUES, exec VALUES, graph, trial N S TABLE, cover S FILE [BUDGET], covercheck S FILE, parts S K FILE [BUDGET], judge S PLAY, tidy S PLAY, cache S TABLE [BUDGET]\n";
 
 /// Words, a kernel, and the status, the printed text and the file that they give; the file holds `old` before.
 #[derive(Clone, Copy)]

@@ -1,6 +1,6 @@
 //! Plans by the search: the numbers, the code and the table of the worked examples with a budget, and with none in the words.
+use command_answers::Status;
 use example_runs::run_line;
-use pebble_cli::Status;
 use std::alloc::Global;
 use std::process::Abort;
 use std::test::Fail;

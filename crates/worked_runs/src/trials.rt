@@ -1,7 +1,7 @@
 //! The command `trial`: its lines, its table, too few slots, and desks that fail. What stands in the input is no kernel.
+use command_answers::Status;
 use desk_io::{Fail, Kind};
 use example_runs::{run_line, run_on, words_of};
-use pebble_cli::Status;
 use std::alloc::Global;
 use std::process::Abort;
 use std::test::Fail as TestFail;

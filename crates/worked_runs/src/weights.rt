@@ -1,7 +1,7 @@
 //! Weights of a load and a store: the report, the code and the table of a plan, and the check of that table. All numbers were worked out by
 //! hand.
+use command_answers::Status;
 use example_runs::run_line;
-use pebble_cli::Status;
 use std::test::Fail;
 
 /// The kernel y = x + 1.
@@ -32,7 +32,7 @@ const FIRST: &str =
     "; kernel chain\n; vertices 8\n; inputs 1\n; degree 2\n; slots 3\n; load 1\n; store 5\n; first 19\n; cost 19\n; bound 6\n; expanded 0\n; budget 0\n; verdict Open\nslots 3\nwords 4\nin x\nout y 3\nload 0 0\nadd 1 s0 #1\nadd 2 s0 #2\nmul 0 s1 s2\nstore 2 1\nstore 1 2\nload 1 0\nadd 2 s1 #3\nmul 1 s0 s2\nload 0 2\nmul 2 s1 s0\nload 0 1\nmul 1 s2 s0\nstore 1 3\nend\n";
 
 /// Words, an input, what the file holds, the status, and how the printed text begins.
-const ROWS: [(&str, &str, &[u8], Status, &str); 10] = [
+const ROWS: [(&str, &str, &[u8], Status, &str); 11] = [
     ("plan 2 t 0 2 3", P, b"old", Status::Optimal, WEIGHED),
     (
         "check 2 t 2 3",
@@ -87,6 +87,13 @@ const ROWS: [(&str, &str, &[u8], Status, &str); 10] = [
     ),
     (
         "plan 3 t 0 4",
+        KNOT,
+        b"old",
+        Status::Usage,
+        "usage: pebble plan S TABLE [BUDGET [A B]], check S TABLE [A B], ",
+    ),
+    (
+        "check 3 t 0 1",
         KNOT,
         b"old",
         Status::Usage,

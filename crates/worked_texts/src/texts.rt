@@ -13,8 +13,8 @@ mod syntax;
 mod tokens;
 
 use accepted::Planned;
+use command_answers::Status;
 use example_runs::{Left, run_line};
-use pebble_cli::Status;
 use phases::First;
 use std::alloc::{AllocError, Global};
 use std::process::Abort;

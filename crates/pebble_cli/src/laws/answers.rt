@@ -1,23 +1,25 @@
-//! Laws of the answers of all commands, over the definitions alone. With `determined` of `pebble` they say which status comes, and with
+//! Laws of the answers of all commands, over the definitions alone. With `determined` of `pebble` they say which answer comes, and with
 //! `said` what a status means.
-ghost use Rattle.pebble_cli.specs.AnswerLaws.{OneAnswer, SomeAnswer, WordsAreInLimits, NoFaultIsAnAnswer, TablesAreOfWriters};
+ghost use Rattle.pebble_cli.specs.AnswerLaws.{OneAnswer, SomeAnswer, AnswersAnyInput, AdmitsAnyInput, NoFaultIsAnAnswer, TablesAreOfWriters};
 ghost use Rattle.pebble_cli.specs.AnswerLaws.{UsageOnly, UsageAlways, KernelOnly, KernelAlways, TooSmallOnly, TooSmallAlways, LastOnly, LastAlways};
 ghost use Rattle.pebble_cli.specs.AnswerLaws.{CodeOnly, CodeAlways};
 
-/// All answers to the same words, input and file have one status: of a refusal in any case, of a command's own answer where the desk tells
-/// the file that it reads.
+/// All answers to the same words, input and file are one: one status, one printed text and one table, or none. That holds of a refusal in
+/// any case, of a command's own answer where the desk tells the file that it reads.
 pub fn one_answer()
     ensures { OneAnswer }
 {}
 
-/// There is an answer to all words, each input and each file, but for a file that is missing and is to be read.
+/// There is an answer to all words, each input and each file, but for a file that is missing where the command comes to read it: nothing
+/// refuses the input.
 pub fn some_answer()
     ensures { SomeAnswer }
 {}
 
-/// The numbers of a command that words spell are in range.
-pub fn words_are_in_limits()
-    ensures { WordsAreInLimits }
+/// Where the words read no input, what answers them with one input answers them with any, and nothing refuses one that does not refuse all.
+pub fn idle_inputs()
+    ensures answers { AnswersAnyInput }
+    ensures admitted { AdmitsAnyInput }
 {}
 
 /// No answer is a fault of the desk or of memory. A table goes only with the own answers of commands that write the file.

@@ -11,7 +11,7 @@ pub fn check_answers()
     ensures always { CertifiedOrRefused }
 {}
 
-/// A file that `plan` wrote is accepted by `check` with the same kernel and slots, and its bound is printed.
+/// A file that `plan` wrote is accepted by `check` with the same kernel, slots and weights, and its bound is printed.
 pub fn plans_are_accepted()
     ensures { PlansAreAccepted }
 {}

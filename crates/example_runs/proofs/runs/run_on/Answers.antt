@@ -2,7 +2,7 @@
 use Rattle.std.proofs.Common.{◌≡◌, ◌∙◌, sym, subst, Some}
 use Rattle.desk_io.specs.Known.{file_items}
 use Rattle.pebble_cli.specs.Answers.{Answers}
-use Rattle.pebble_cli.specs.Words.{asked_by}
+use Rattle.command_words.specs.Words.{asked_by}
 use Rattle.std.specs.Io.KnownBytes.{append_known}
 use Rattle.example_runs.proofs.runs.run_on.Goals as goal
 

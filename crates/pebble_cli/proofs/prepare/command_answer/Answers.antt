@@ -1,7 +1,7 @@
 -- The answer to the kernel or the code in the input, or to the trial kernel, is the answer to the input.
 use Rattle.std.proofs.Common.{◌≡◌, ◌∙◌, Err, rules, sym, subst}
 use Rattle.desk_io.specs.Known.{Tells}
-use Rattle.pebble_cli.specs.declared.commands.Subject.TheVariants.{InputKernel, InputCode}
+use Rattle.command_words.specs.declared.commands.Subject.TheVariants.{InputKernel, InputCode}
 use Rattle.pebble_cli.proofs.SubjectAnswers.{long_answers, told_answers, file_fault, long_code_answers, code_answers, code_file_fault, trial_answers, trial_file_fault, trial_in_limits}
 use Rattle.pebble_cli.proofs.prepare.command_answer.Goals as goal
 

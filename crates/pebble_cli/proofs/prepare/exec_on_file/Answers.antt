@@ -1,10 +1,10 @@
 -- A text that is no code is refused, and where memory is wanted there is no answer.
 use Rattle.std.proofs.Common.{◌≡◌, Err, rules, inr}
-use Rattle.pebble_cli.specs.declared.answer.EarlyEnd.TheVariants.{NoMemory}
-use Rattle.pebble_cli.specs.CodeInputs.{IsNoCode}
-use Rattle.pebble_cli.specs.ExecAnswers.{Executes}
-use Rattle.pebble_cli.specs.MadeAnswers.{Meets}
-use Rattle.pebble_cli.proofs.KernelAnswers.{refused_answers, no_answer}
+use Rattle.command_answers.specs.declared.answer.EarlyEnd.TheVariants.{NoMemory}
+use Rattle.command_answers.specs.CodeInputs.{IsNoCode}
+use Rattle.command_answers.specs.ExecAnswers.{Executes}
+use Rattle.command_answers.specs.MadeAnswers.{Meets}
+use Rattle.command_answers.proofs.EarlyEnds.{refused_answers, no_answer}
 use Rattle.pebble_cli.proofs.prepare.exec_on_file.Goals as goal
 
 pub returns-in_err-code-clause-answers : goal.returns-in_err-code-clause-answers

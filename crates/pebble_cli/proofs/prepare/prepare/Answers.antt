@@ -1,8 +1,9 @@
 -- What answers the command that the words spell answers the words.
 use Rattle.std.proofs.Common.{refl, Err, sym, ap, subst, inr}
 use Rattle.pebble_cli.specs.Faults.{ReadCause}
-use Rattle.pebble_cli.specs.MadeAnswers.{AnswersInput, IfAnswer}
-use Rattle.pebble_cli.specs.Words.{asked_by}
+use Rattle.command_answers.specs.MadeAnswers.{IfAnswer}
+use Rattle.pebble_cli.specs.InputAnswers.{AnswersInput}
+use Rattle.command_words.specs.Words.{asked_by}
 use Rattle.std.specs.Prelude.{Some}
 use Rattle.pebble_cli.proofs.SubjectAnswers.{usage_answers}
 use Rattle.pebble_cli.proofs.prepare.prepare.Goals as goal

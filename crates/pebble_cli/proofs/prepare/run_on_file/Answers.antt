@@ -1,7 +1,7 @@
 -- Where memory is wanted there is no answer.
 use Rattle.std.proofs.Common.{◌≡◌, Err, rules}
-use Rattle.pebble_cli.specs.declared.answer.EarlyEnd.TheVariants.{NoMemory}
-use Rattle.pebble_cli.proofs.KernelAnswers.{no_answer}
+use Rattle.command_answers.specs.declared.answer.EarlyEnd.TheVariants.{NoMemory}
+use Rattle.command_answers.proofs.EarlyEnds.{no_answer}
 use Rattle.pebble_cli.proofs.prepare.run_on_file.Goals as goal
 
 pub returns-in_err-run_answer-clause-answers : goal.returns-in_err-run_answer-clause-answers

@@ -1,11 +1,12 @@
 -- What the answer that was made says of the run: where it was delivered, where a write failed, and where there is none.
-use Rattle.std.proofs.Common.{◌∙◌, inl, inr, subst, sym}
+use Rattle.std.proofs.Common.{◌≡◌, ◌∙◌, inl, inr, refl, subst, sym}
 use Rattle.desk_io.specs.Known.{file_items}
-use Rattle.pebble_cli.specs.Answers.{Answers}
-use Rattle.pebble_cli.specs.Words.{asked_by}
-use Rattle.pebble_cli.proofs.AnswerLaws.{kind_of, last_always, one_answer, no_fault, usage_only, to_usage, tables_are_of_writers, refused_without_table, no_answer_without_file}
-use Rattle.pebble_cli.proofs.Delivering.{cut_rose, cut_from, then_same, cut_keeps, cause_of_end, no_table_keeps, cause_rose, no_cause, end_is_yielded, end_is_not_of_read, write_fault_is_not_of_read, end_is_fault_or_none, end_is_no_verdict, end_without_cause, answer_is_no_end, no_memory_is_no_fault, verdict_of_plan}
-use Rattle.pebble_cli.proofs.ToldBytes.{told_is}
+use Rattle.pebble_cli.specs.Answers.{Answers, LastAnswers, IsAdmitted}
+use Rattle.command_words.specs.Words.{asked_by}
+use Rattle.pebble_cli.proofs.AnswerLaws.{kind_of, last_always, last_only, one_answer, no_fault, usage_only, to_usage, tables_are_of_writers, refused_without_table, no_answer_without_file}
+use Rattle.pebble_cli.proofs.IdleInputs.{answers_text}
+use Rattle.pebble_cli.proofs.Delivering.{cut_rose, cut_from, then_same, cut_keeps, cause_of_end, no_table_keeps, cause_rose, no_cause, end_is_yielded, end_is_no_answer, end_is_not_of_read, write_fault_is_not_of_read, end_is_fault_or_none, end_is_no_verdict, end_without_cause, answer_is_no_end, no_memory_is_no_fault, verdict_of_plan}
+use Rattle.command_answers.proofs.ToldBytes.{told_is}
 use Rattle.pebble_cli.proofs.top.pebble.Goals as goal
 
 -- ---- the answer was delivered
@@ -17,6 +18,24 @@ returns-in-Ok-deliver-clause-headline g c asked asks verdict =
     let said = rw c.prepare.ensures.same_output at c.in-Ok-deliver.ensures.ok.said in
     let plan = verdict_of_plan _ asked _ _ _ _ _ asks text.2 verdict in
     (text.0, _, plan.0, text.1, plan.1, said, rw plan.2 at written)
+
+pub returns-in-Ok-deliver-clause-own : goal.returns-in-Ok-deliver-clause-own
+returns-in-Ok-deliver-clause-own g c asked asks last =
+    let told = c.in-Ok.ensures.answers in
+    let answer = c.in-Ok.answer in
+    let held = g.D.Desk.file c.args.desk.now in
+    let own = last_only _ _ _ _ _ _ told.2 last in
+    let same : own.0 ≡ asked = (let found = own.1 in cc) in
+    let written = rw c.prepare.ensures.same_file at c.in-Ok-deliver.ensures.ok.written in
+    let said = rw c.prepare.ensures.same_output at c.in-Ok-deliver.ensures.ok.said in (
+      told.0,
+      answer.text.items,
+      file_items answer.table,
+      told.1,
+      subst (λ k. IsAdmitted k told.0) same own.2,
+      subst (λ k. LastAnswers k told.0 held answer.status answer.text.items (file_items answer.table)) same own.3,
+      record { written = written; said = said },
+    )
 
 pub returns-in-Ok-deliver-clause-said : goal.returns-in-Ok-deliver-clause-said
 returns-in-Ok-deliver-clause-said g c read write memory =
@@ -42,9 +61,11 @@ returns-in-Ok-deliver-clause-determined g c text status printed table input file
     let answer = c.in-Ok.answer in
     let command = asked_by c.args.words.now in
     let held = g.D.Desk.file c.args.desk.now in
-    let same = told_is _ told.0 text told.1 input in
-    let made = subst (λ t. Answers command t held answer.status answer.text.items (file_items answer.table)) same told.2 in
-    inl (sym (one_answer command text held status printed table h answer.status answer.text.items (file_items answer.table) file made))
+    let made = answers_text command _ told.0 text held answer.status answer.text.items (file_items answer.table) told.1 input told.2 in
+    let same = one_answer command text held status printed table h answer.status answer.text.items (file_items answer.table) file made in
+    let written = rw c.prepare.ensures.same_file at c.in-Ok-deliver.ensures.ok.written in
+    let said = rw c.prepare.ensures.same_output at c.in-Ok-deliver.ensures.ok.said in
+    (inl (sym same.0), λ is. record { written = rw (sym same.2) at written; said = rw (sym same.1) at said })
 
 pub returns-in-Ok-deliver-clause-missing : goal.returns-in-Ok-deliver-clause-missing
 returns-in-Ok-deliver-clause-missing g c asked text asks reads input admitted held =
@@ -61,8 +82,7 @@ pub returns-in-Ok-deliver-clause-complete : goal.returns-in-Ok-deliver-clause-co
 returns-in-Ok-deliver-clause-complete g c asked text asks input admitted calm =
     let told = c.in-Ok.ensures.answers in
     let answer = c.in-Ok.answer in
-    let same = told_is _ told.0 text told.1 input in
-    let here = subst (λ t. Answers (asked_by c.args.words.now) t (g.D.Desk.file c.args.desk.now) answer.status answer.text.items (file_items answer.table)) same told.2 in
+    let here = answers_text (asked_by c.args.words.now) _ told.0 text (g.D.Desk.file c.args.desk.now) answer.status answer.text.items (file_items answer.table) told.1 input told.2 in
     inl (last_always _ _ _ _ _ _ here asked asks admitted)
 
 pub returns-in-Ok-deliver-clause-no_vain_write : goal.returns-in-Ok-deliver-clause-no_vain_write
@@ -93,8 +113,7 @@ pub returns-in-Ok-deliver-clause-refused_keep : goal.returns-in-Ok-deliver-claus
 returns-in-Ok-deliver-clause-refused_keep g c asked text asks input refused =
     let told = c.in-Ok.ensures.answers in
     let answer = c.in-Ok.answer in
-    let same = told_is _ told.0 text told.1 input in
-    let here = subst (λ t. Answers (asked_by c.args.words.now) t (g.D.Desk.file c.args.desk.now) answer.status answer.text.items (file_items answer.table)) same told.2 in
+    let here = answers_text (asked_by c.args.words.now) _ told.0 text (g.D.Desk.file c.args.desk.now) answer.status answer.text.items (file_items answer.table) told.1 input told.2 in
     let none = refused_without_table asked text (g.D.Desk.file c.args.desk.now) answer.status answer.text.items (file_items answer.table) refused (kind_of asked asks here) in
     no_table_keeps _ _ _ none c.in-Ok-deliver.ensures.ok.written ∙ c.prepare.ensures.same_file
 
@@ -107,6 +126,13 @@ returns-clause-write_fault g c fault =
     let cut = cut_from g.D.Desk.file g.D.Desk.output g.D.Desk.faults c.args.desk.now _ _ answer.text.items (file_items answer.table)
     c.prepare.ensures.same_file c.prepare.ensures.same_output c.prepare.ensures.write_faults c.in-Err-deliver.ensures.fault in
     (text.0, answer.text.items, file_items answer.table, answer.status, text.1, text.2, cut)
+
+pub returns-clause-own : goal.returns-clause-own
+returns-clause-own g c asked asks last = write_fault_is_not_of_read (inr last)
+
+pub returns-clause-determined : goal.returns-clause-determined
+returns-clause-determined g c text status printed table input file h =
+    (inr (inr (inl refl)), λ is. absurd ((no_fault _ _ _ _ _ _ h).1.0 (sym is)))
 
 pub returns-clause-missing : goal.returns-clause-missing
 returns-clause-missing g c asked text asks reads input admitted held =
@@ -138,8 +164,7 @@ pub returns-clause-refused_keep : goal.returns-clause-refused_keep
 returns-clause-refused_keep g c asked text asks input refused =
     let told = c.in-Ok.ensures.answers in
     let answer = c.in-Ok.answer in
-    let same = told_is _ told.0 text told.1 input in
-    let here = subst (λ t. Answers (asked_by c.args.words.now) t (g.D.Desk.file c.args.desk.now) answer.status answer.text.items (file_items answer.table)) same told.2 in
+    let here = answers_text (asked_by c.args.words.now) _ told.0 text (g.D.Desk.file c.args.desk.now) answer.status answer.text.items (file_items answer.table) told.1 input told.2 in
     let none = refused_without_table asked text (g.D.Desk.file c.args.desk.now) answer.status answer.text.items (file_items answer.table) refused (kind_of asked asks here) in
     cut_keeps g.D.Desk.file g.D.Desk.output g.D.Desk.faults _ _ _ _ none c.in-Err-deliver.ensures.fault ∙ c.prepare.ensures.same_file
 
@@ -151,8 +176,12 @@ returns-in-Err-clause-read_fault g c fault = cause_of_end _ _ c.in-Err.ensures.r
 pub returns-in-Err-clause-headline : goal.returns-in-Err-clause-headline
 returns-in-Err-clause-headline g c asked asks verdict = end_is_no_verdict _ _ c.in-Err.ensures.refusal verdict
 
+pub returns-in-Err-clause-own : goal.returns-in-Err-clause-own
+returns-in-Err-clause-own g c asked asks last = end_is_not_of_read _ _ c.in-Err.ensures.refusal (inr last)
+
 pub returns-in-Err-clause-determined : goal.returns-in-Err-clause-determined
-returns-in-Err-clause-determined g c text status printed table input file h = end_is_yielded _ status _ c.in-Err.ensures.refusal
+returns-in-Err-clause-determined g c text status printed table input file h =
+    (end_is_yielded _ status _ c.in-Err.ensures.refusal, λ is. end_is_no_answer _ _ _ is (no_fault _ _ _ _ _ _ h) c.in-Err.ensures.refusal)
 
 pub returns-in-Err-clause-missing : goal.returns-in-Err-clause-missing
 returns-in-Err-clause-missing g c asked text asks reads input admitted held = end_is_fault_or_none _ _ c.in-Err.ensures.refusal

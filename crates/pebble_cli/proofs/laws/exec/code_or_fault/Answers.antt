@@ -1,5 +1,5 @@
 -- The laws are lemmas.
-use Rattle.pebble_cli.proofs.CodeInputs.{one_code, one_code_fault, no_fault_of_code, code_or_fault}
+use Rattle.command_answers.proofs.CodeInputs.{one_code, one_code_fault, no_fault_of_code, code_or_fault}
 use Rattle.pebble_cli.proofs.laws.exec.code_or_fault.Goals as goal
 
 pub returns-clause-once : goal.returns-clause-once

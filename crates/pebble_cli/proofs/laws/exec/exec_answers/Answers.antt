@@ -1,6 +1,6 @@
 -- The laws are lemmas.
 use Rattle.pebble_cli.proofs.ExecLaws.{exec_statuses, done_where_run, fault_where_empty, values_where_wrong}
-use Rattle.pebble_cli.proofs.ValuesFiles.{holds_or_not}
+use Rattle.command_answers.proofs.ValuesFiles.{holds_or_not}
 use Rattle.pebble_cli.proofs.laws.exec.exec_answers.Goals as goal
 
 pub returns-clause-statuses : goal.returns-clause-statuses

@@ -1,6 +1,5 @@
 -- The laws are lemmas.
 use Rattle.pebble_cli.proofs.CommandLaws.{run_statuses, done_where_values, values_where_none}
-use Rattle.pebble_cli.proofs.RunKept.{values_or_not}
 use Rattle.pebble_cli.proofs.laws.run.run_answers.Goals as goal
 
 pub returns-clause-statuses : goal.returns-clause-statuses
@@ -11,6 +10,3 @@ returns-clause-done c = done_where_values
 
 pub returns-clause-values : goal.returns-clause-values
 returns-clause-values c = values_where_none
-
-pub returns-clause-always : goal.returns-clause-always
-returns-clause-always c = values_or_not

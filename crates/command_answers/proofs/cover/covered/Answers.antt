@@ -1,0 +1,28 @@
+-- What the search that names covering rows finds from the first plan is what is answered.
+use Rattle.std.proofs.Common.{◌≡◌, subst, sym, arith}
+use Rattle.comp_graph.specs.Games.{IsGame}
+use Rattle.cover_cert.proofs.CoverRanges.{cover_in_range}
+use Rattle.command_answers.specs.CoverAnswers.{IsCovered}
+use Rattle.command_answers.specs.PlanAnswers.{first_plan_of}
+use Rattle.command_answers.proofs.FirstPlans.{first_plan_is}
+use Rattle.command_answers.proofs.FoundCovers.{found_is_covered}
+use Rattle.command_answers.proofs.FoundPlans.{of_answer}
+use Rattle.command_answers.proofs.cover.covered.Goals as goal
+
+pub found_answer-requires-clause-table : goal.found_answer-requires-clause-table
+found_answer-requires-clause-table c =
+    let game : IsGame c.in_ok-first.first.game = subst IsGame (sym c.in_ok-first.ensures.game) c.slots-slots.ensures.valid in
+    let table = c.in_ok-found.ensures.table in
+    let few = table.few in
+    let budget = c.requires.budget in
+    cover_in_range c.in_ok-first.first.game game c.in_ok-found.found.table table.of_game (omega (arith, few, budget))
+
+pub returns : goal.returns
+returns c =
+    let first : c.in_ok-first.first ≡ first_plan_of c.args.game.now =
+    first_plan_is c.args.game.now c.in_ok-first.first c.in_ok-first.ensures.game c.in_ok-first.ensures.steps c.in_ok-first.ensures.total in
+    of_answer c.found_answer.result _ _ _ _ (λ answer status text table source kernel accepted.
+    subst (λ t. IsCovered c.args.asked source answer.status answer.text.items t) (sym table.1)
+    (found_is_covered c.args.asked c.args.game.now c.in_ok-first.first c.in_ok-found.found source kernel answer.status answer.text.items table.0 c.requires.game c.slots-slots.ensures.valid first
+    c.in_ok-found.ensures c.found_answer.ensures.plan accepted status text table.2))
+    c.found_answer.ensures.status c.found_answer.ensures.text c.found_answer.ensures.table

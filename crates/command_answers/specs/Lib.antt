@@ -1,0 +1,22 @@
+-- The words that this crate's contracts are written in.
+pub mod Accepted
+pub mod CacheAnswers
+pub mod CheckAnswers
+pub mod CodeInputs
+pub mod CoverAnswers
+pub mod CoverCheckAnswers
+pub mod ExecAnswers
+pub mod GraphAnswers
+pub mod MadeAnswers
+pub mod MadeCovers
+pub mod PartAnswers
+pub mod PlanAnswers
+pub mod PlayAnswers
+pub mod PlayedGames
+pub mod Refusals
+pub mod RightCodes
+pub mod RunAnswers
+pub mod Status
+pub mod Subjects
+pub mod TrialAnswers
+pub mod ValuesFiles
