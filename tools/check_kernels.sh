@@ -2,9 +2,9 @@
 # Plans each kernel of kernels/ with three numbers of slots, has the program check the tables that it wrote, prints its graph, and runs it
 # and its code on ten lists of values. Checks the report, the code, the table, the outputs, the graph and the exit statuses against
 # tools/run_code.py, the outputs of `run` against those of `exec` and, where there is a gcc, of the code as a C function
-# (tools/code_to_c.py), and docs/KERNELS.md and the tests of
-# crates/worked_kernels against the kernels. The exit status is 0 where all agrees, or where there is no python3 to check with. PEBBLE
-# names another program than the one at the top of the repository.
+# (tools/code_to_c.py), the costs of a cache against tools/compare_cache.py, and docs/KERNELS.md and the tests of crates/worked_kernels
+# against the kernels. The exit status is 0 where all agrees, or where there is no python3 to check with. PEBBLE names another program than
+# the one at the top of the repository.
 here=$(CDPATH= cd -- "$(dirname -- "$0")/.." && pwd) || exit 1
 pebble=${PEBBLE:-$here/pebble}
 run_code=$here/tools/run_code.py
@@ -50,6 +50,7 @@ run_on() {
 python3 "$run_code" document "$here/docs/KERNELS.md" "$here"/kernels/*.kernel || result=1
 python3 "$run_code" gallery "$here/crates/worked_kernels/src/gallery" "$here"/kernels/*.kernel || result=1
 python3 "$here/tools/compare_kernels.py" || result=1
+python3 "$here/tools/compare_cache.py" check || result=1
 for kernel in "$here"/kernels/*.kernel; do
     sizes=$(python3 "$run_code" slots "$kernel") || { echo "$kernel: $sizes"; result=1; continue; }
     for slots in $sizes; do

@@ -100,4 +100,5 @@ def main(words):
     return result
 
 
-sys.exit(main(sys.argv[1:]))
+if __name__ == "__main__":
+    sys.exit(main(sys.argv[1:]))

@@ -3,8 +3,8 @@
 
 It looks at names alone and at texts byte by byte, and works nothing out: that the numbers are right is what tools/run_code.py checks.
 - A file has the name of its kernel.
-- docs/KERNELS.md has each kernel once in its first table and once in its table of plans, in order, and twice in its table of outputs, and
-  says how many kernels there are.
+- docs/KERNELS.md has each kernel once in its first table, in its table of plans and in that beside a cache, in order, and twice in its
+  table of outputs, and says how many kernels there are.
 - The tests in crates/worked_kernels/src/gallery have each file's text and no other, and run each kernel on the inputs that docs/KERNELS.md
   shows.
 Ends with 0 where all agrees, and else with 1 and a line for each difference.
@@ -43,13 +43,15 @@ def compare_files(texts):
 
 
 def compare_page(texts, page):
-    """The three tables of the page, and the number of kernels that it says."""
+    """The four tables of the page, and the number of kernels that it says."""
     names = sorted(texts)
     sections = re.split(r'^## ', page, flags=re.MULTILINE)
-    forms = [r'^\| `(\w+)` \|', r'^\| `(\w+)` \|(?: \d+ \|){9}$', r'^\| `(\w+)` \| `']
+    nine_numbers = r'^\| `(\w+)` \|(?: \d+ \|){9}$'
+    forms = [r'^\| `(\w+)` \|', nine_numbers, nine_numbers, r'^\| `(\w+)` \| `']
     tables = [re.findall(form, section, re.MULTILINE) for form, section in zip(forms, sections)]
     for title, found, wanted in [('the first table', tables[0], names), ('the table of plans', tables[1], names),
-                                 ('the table of outputs', tables[2], [name for name in names for _ in range(2)])]:
+                                 ('the table beside a cache', tables[2], names),
+                                 ('the table of outputs', tables[3], [name for name in names for _ in range(2)])]:
         if found != wanted:
             odd = sorted(set(found) ^ set(wanted)) or 'their order or number'
             yield f'docs/KERNELS.md: {title} does not have the kernels of kernels/: {odd}'
