@@ -233,5 +233,5 @@ trials_are_as_shown asked input file status printed table limits h kernel graph 
     (same.1, same.2)
 
 pub no_read_of_trials : NoReadOfTrials
-no_read_of_trials asked input before now (of_input reads rose) = absurd (cc)
-no_read_of_trials asked input before now (of_file other is reads admitted rose) = absurd (cc)
+no_read_of_trials asked input before now (of_input reads rose same) = absurd (cc)
+no_read_of_trials asked input before now (of_file other is reads admitted rose same) = absurd (cc)

@@ -47,15 +47,17 @@ cut_from file output faults first old new printed table same_file same_output sa
       cause = subst (λ n. Rose n (faults new PutOutput)) same.output cut.cause;
       written = subst (λ f. file new ≡ file_after f table) same_file cut.written;
       prefix = (cut.prefix.0, cut.prefix.1, subst (λ o. output new ≡ append_known o (take cut.prefix.0 printed)) same_output cut.prefix.2);
+      kept = (cut.kept.0 ∙ same.file, cut.kept.1 ∙ same.clear);
     }
 
     table_cut : (table : List ℕ) → TableCut file output faults old new table → TableCut file output faults first new table
     table_cut table cut = record {
       cause = elim cut.cause [
-        | inl cleared ↦ inl (subst (λ n. Rose n (faults new ClearFile)) same.clear cleared.0, cleared.1 ∙ same_file)
-        | inr put ↦ inr (subst (λ n. Rose n (faults new PutFile)) same.file put.0, (put.1.0, put.1.1, subst (λ f. file new ≡ file_of f (take put.1.0 table)) same_file put.1.2))
+        | inl cleared ↦ inl (subst (λ n. Rose n (faults new ClearFile)) same.clear cleared.0, cleared.1 ∙ same_file, cleared.2 ∙ same.file)
+        | inr put ↦ inr (subst (λ n. Rose n (faults new PutFile)) same.file put.0, put.1 ∙ same.clear, (put.2.0, put.2.1, subst (λ f. file new ≡ file_of f (take put.2.0 table)) same_file put.2.2))
       ];
       silent = cut.silent ∙ same_output;
+      unsaid = cut.unsaid ∙ same.output;
     }
 
     by_table : (table : Option (List ℕ)) → CutShort file output faults old new printed table → CutShort file output faults first new printed table
@@ -77,13 +79,13 @@ no_table_keeps now old (Some table) none written = absurd (cc)
 
 -- behind a read fault a count rose
 pub cause_rose : {command : Option Command} {input : Option (List ℕ)} {before now : Kind → ℕ} → ReadCause command input before now → (kind : Kind) × Rose (before kind) (now kind)
-cause_rose (of_input reads rose) = (TakeInput, rose)
-cause_rose (of_file asked is reads admitted rose) = (TakeFile, rose)
+cause_rose (of_input reads rose same) = (TakeInput, rose)
+cause_rose (of_file asked is reads admitted rose same) = (TakeFile, rose)
 
 -- words that spell no command read nothing
 pub no_cause : {X : Type 0} {command : Option Command} {input : Option (List ℕ)} {before now : Kind → ℕ} → command ≡ None → ReadCause command input before now → X
-no_cause {command = None} is (of_input reads rose) = absurd (cc)
-no_cause {command = None} is (of_file asked other reads admitted rose) = absurd (cc)
+no_cause {command = None} is (of_input reads rose same) = absurd (cc)
+no_cause {command = None} is (of_file asked other reads admitted rose same) = absurd (cc)
 no_cause {command = Some asked} is cause = absurd (cc)
 
 -- ---- ends before an answer

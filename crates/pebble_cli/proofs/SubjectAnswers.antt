@@ -1,7 +1,7 @@
 -- How the answer of a command to its kernel becomes its answer to the input, as far as the desk tells it.
 use Rattle.std.proofs.Common.{◌≡◌, ◌⊎◌, ◌≤◌, ◌∙◌, ℕ, true, false, List, [], Option, Some, None, Result, Err, inl, inr, refl, sym, ap, subst}
 use Rattle.desk_io.specs.declared.desk.Kind.{Kind}
-use Rattle.desk_io.specs.declared.desk.Kind.TheVariants.{TakeFile}
+use Rattle.desk_io.specs.declared.desk.Kind.TheVariants.{TakeInput, TakeFile}
 use Rattle.desk_io.specs.Counts.{Rose}
 use Rattle.desk_io.specs.Known.{Tells}
 use Rattle.kernel_gen.specs.Trials.{trial_kernel}
@@ -51,12 +51,12 @@ told_answers r command known text file held told same e h =
 
 -- a take of the file that failed once the input was read
 pub file_fault : (command : Command) (known : Option (List ℕ)) (text : List ℕ) (before mid now : Kind → ℕ) → Tells known text → subject command ≡ InputKernel
-    → mid TakeFile ≡ before TakeFile
+    → mid TakeFile ≡ before TakeFile → mid TakeInput ≡ before TakeInput → now TakeInput ≡ mid TakeInput
     → ((input : List ℕ) → kernel_text (subject command) input ≡ Some text → (reads_file (Some command) ≡ true) × IsAdmitted command input × Rose (mid TakeFile) (now TakeFile))
     → ReadCause (Some command) known before now
-file_fault command known text before mid now told e same h =
+file_fault command known text before mid now told e same early late h =
     let cause = h text (input_is_text command text e) in
-    of_file command refl cause.0 (record { text = text; told = told; admitted = cause.1 }) (subst (λ n. Rose n (now TakeFile)) same cause.2)
+    of_file command refl cause.0 (record { text = text; told = told; admitted = cause.1 }) (subst (λ n. Rose n (now TakeFile)) same cause.2) (late ∙ early)
 
 -- ---- code
 
@@ -102,10 +102,10 @@ code_answers r command known text file held told same e h =
 
 -- a take of the file that failed once the input was read
 pub code_file_fault : (command : Command) (known : Option (List ℕ)) (text : List ℕ) (before mid now : Kind → ℕ) → Tells known text → subject command ≡ InputCode
-    → mid TakeFile ≡ before TakeFile → ((code : CodeParts) × IsCodeInput text code) × Rose (mid TakeFile) (now TakeFile) → ReadCause (Some command) known before now
-code_file_fault command known text before mid now told e same cause =
+    → mid TakeFile ≡ before TakeFile → mid TakeInput ≡ before TakeInput → now TakeInput ≡ mid TakeInput → ((code : CodeParts) × IsCodeInput text code) × Rose (mid TakeFile) (now TakeFile) → ReadCause (Some command) known before now
+code_file_fault command known text before mid now told e same early late cause =
     of_file command refl (ap (λ c. reads_file (Some c)) (only_exec command e)) (record { text = text; told = told; admitted = code_input cause.0.0 e cause.0.1 })
-    (subst (λ n. Rose n (now TakeFile)) same cause.1)
+    (subst (λ n. Rose n (now TakeFile)) same cause.1) (late ∙ early)
 
 -- ---- a trial kernel
 

@@ -8,11 +8,11 @@ use Rattle.pebble_cli.specs.Answers.{HasAdmitted}
 use Rattle.command_words.specs.Commands.{reads_input, reads_file}
 
 -- a take failed that the words ask for: one of the input; or one of the file, which is read only where the command reads it and nothing
--- refuses the input
+-- refuses the input; no take of the other was tried in vain
 pub data ReadCause (command : Option Command) (input : Option (List ℕ)) (before now : Kind → ℕ) : Type 0 where
-  of_input : reads_input command ≡ true → Rose (before TakeInput) (now TakeInput) → ReadCause command input before now
+  of_input : reads_input command ≡ true → Rose (before TakeInput) (now TakeInput) → now TakeFile ≡ before TakeFile → ReadCause command input before now
   of_file : (asked : Command) → command ≡ Some asked → reads_file command ≡ true → HasAdmitted asked input
-      → Rose (before TakeFile) (now TakeFile) → ReadCause command input before now
+      → Rose (before TakeFile) (now TakeFile) → now TakeInput ≡ before TakeInput → ReadCause command input before now
 
 -- the counts of the calls that read stay as they were, so none of them was tried in vain
 pub record SameTakeFaults (before now : Kind → ℕ) : Type 0 where

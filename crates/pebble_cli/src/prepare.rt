@@ -64,6 +64,7 @@ fn run_on_file<D: Desk>(
         IfAnswer result (Meets (Runs text (D.file desk.old))) }
     ensures fault { result ≡ Err EarlyEnd.ReadFault →
         Rose (D.faults desk.old Kind.TakeFile) (D.faults desk.new Kind.TakeFile) }
+    ensures same_takes { D.faults desk.new Kind.TakeInput ≡ D.faults desk.old Kind.TakeInput }
     ensures no_vain_take { result ≢ Err EarlyEnd.ReadFault → SameTakeFaults (D.faults desk.old) (D.faults desk.new) }
     ensures write_faults { SameWriteFaults (D.faults desk.old) (D.faults desk.new) }
     ensures same_name { D.name desk.new ≡ D.name desk.old }
@@ -82,6 +83,7 @@ fn exec_on_file<D: Desk>(alloc: Global, desk: &mut D, text: &[u8]) -> Result<Ans
         Meets (IsNoCode text.now) answer ⊎ Meets (Executes text.now (D.file desk.old)) answer) }
     ensures fault { result ≡ Err EarlyEnd.ReadFault → ((code : CodeParts) × IsCodeInput text.now code)
         × Rose (D.faults desk.old Kind.TakeFile) (D.faults desk.new Kind.TakeFile) }
+    ensures same_takes { D.faults desk.new Kind.TakeInput ≡ D.faults desk.old Kind.TakeInput }
     ensures no_vain_take { result ≢ Err EarlyEnd.ReadFault → SameTakeFaults (D.faults desk.old) (D.faults desk.new) }
     ensures write_faults { SameWriteFaults (D.faults desk.old) (D.faults desk.new) }
     ensures same_name { D.name desk.new ≡ D.name desk.old }
@@ -134,6 +136,7 @@ fn game_on_file<D: Desk>(
         IfAnswer result (Meets (LastAnswers command text (D.file desk.old))) }
     ensures fault { result ≡ Err EarlyEnd.ReadFault →
         Rose (D.faults desk.old Kind.TakeFile) (D.faults desk.new Kind.TakeFile) }
+    ensures same_takes { D.faults desk.new Kind.TakeInput ≡ D.faults desk.old Kind.TakeInput }
     ensures no_vain_take { result ≢ Err EarlyEnd.ReadFault → SameTakeFaults (D.faults desk.old) (D.faults desk.new) }
     ensures write_faults { SameWriteFaults (D.faults desk.old) (D.faults desk.new) }
     ensures same_name { D.name desk.new ≡ D.name desk.old }
@@ -165,6 +168,7 @@ fn graph_on_file<D: Desk>(
         IfAnswer result (λ answer. Meets (IsTooSmall slots text) answer ⊎ Meets (LastAnswers command text (D.file desk.old)) answer) }
     ensures fault { result ≡ Err EarlyEnd.ReadFault → (degree (dag_of graph) < slots)
         × Rose (D.faults desk.old Kind.TakeFile) (D.faults desk.new Kind.TakeFile) }
+    ensures same_takes { D.faults desk.new Kind.TakeInput ≡ D.faults desk.old Kind.TakeInput }
     ensures no_vain_take { result ≢ Err EarlyEnd.ReadFault → SameTakeFaults (D.faults desk.old) (D.faults desk.new) }
     ensures write_faults { SameWriteFaults (D.faults desk.old) (D.faults desk.new) }
     ensures same_name { D.name desk.new ≡ D.name desk.old }
@@ -190,6 +194,7 @@ fn kernel_answer<D: Desk>(
     ensures fault { (input : List ℕ) → kernel_text (subject command) input ≡ Some text.now →
         result ≡ Err EarlyEnd.ReadFault → (reads_file (Some command) ≡ true) × IsAdmitted command input
         × Rose (D.faults desk.old Kind.TakeFile) (D.faults desk.new Kind.TakeFile) }
+    ensures same_takes { D.faults desk.new Kind.TakeInput ≡ D.faults desk.old Kind.TakeInput }
     ensures no_vain_take { result ≢ Err EarlyEnd.ReadFault → SameTakeFaults (D.faults desk.old) (D.faults desk.new) }
     ensures write_faults { SameWriteFaults (D.faults desk.old) (D.faults desk.new) }
     ensures same_name { D.name desk.new ≡ D.name desk.old }

@@ -93,6 +93,7 @@ pub fn file_bytes<D: Desk>(alloc: Global, desk: &mut D, limit: u32) -> Result<Fi
     ensures not_refused { IfRefused result (λ answer. ⊥) }
     ensures fault { result ≡ Err EarlyEnd.ReadFault →
         Rose (D.faults desk.old Kind.TakeFile) (D.faults desk.new Kind.TakeFile) }
+    ensures same_takes { D.faults desk.new Kind.TakeInput ≡ D.faults desk.old Kind.TakeInput }
     ensures no_vain_take { result ≢ Err EarlyEnd.ReadFault → SameTakeFaults (D.faults desk.old) (D.faults desk.new) }
     ensures write_faults { SameWriteFaults (D.faults desk.old) (D.faults desk.new) }
     ensures same_name { D.name desk.new ≡ D.name desk.old }

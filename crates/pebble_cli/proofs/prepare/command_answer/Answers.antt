@@ -27,7 +27,7 @@ pub returns-in_ok-text-in-InputKernel-clause-fault : goal.returns-in_ok-text-in-
 returns-in_ok-text-in-InputKernel-clause-fault g c fault =
     let told = subst (Tells (g.D.Desk.input c.args.desk.now)) (sym c.deref.ensures.value) c.in_ok-text-in-InputKernel.ensures.told in
     file_fault c.args.command (g.D.Desk.input c.args.desk.now) c.deref.result.now (g.D.Desk.faults c.args.desk.now) (g.D.Desk.faults c.kernel_input.new.desk) (g.D.Desk.faults c.kernel_answer.new.desk) told
-    (sym c.subject.ensures ∙ c.in-InputKernel.is) c.kernel_input.ensures.same_takes (λ input e. c.kernel_answer.ensures.fault input e fault)
+    (sym c.subject.ensures ∙ c.in-InputKernel.is) c.kernel_input.ensures.same_takes (c.kernel_input.ensures.no_vain_take (λ e. let both = sym c.in_ok-text-in-InputKernel.was ∙ e in cc)).input c.kernel_answer.ensures.same_takes (λ input e. c.kernel_answer.ensures.fault input e fault)
 
 -- ---- a code
 
@@ -48,7 +48,7 @@ pub returns-in_ok-text-in-InputCode-clause-fault : goal.returns-in_ok-text-in-In
 returns-in_ok-text-in-InputCode-clause-fault g c fault =
     let told = subst (Tells (g.D.Desk.input c.args.desk.now)) (sym c.deref-in-InputCode.ensures.value) c.in_ok-text-in-InputCode.ensures.told in
     code_file_fault c.args.command (g.D.Desk.input c.args.desk.now) c.deref-in-InputCode.result.now (g.D.Desk.faults c.args.desk.now) (g.D.Desk.faults c.code_input.new.desk)
-    (g.D.Desk.faults c.exec_on_file.new.desk) told (sym c.subject.ensures ∙ c.in-InputCode.is) c.code_input.ensures.same_takes (c.exec_on_file.ensures.fault fault)
+    (g.D.Desk.faults c.exec_on_file.new.desk) told (sym c.subject.ensures ∙ c.in-InputCode.is) c.code_input.ensures.same_takes (c.code_input.ensures.no_vain_take (λ e. let both = sym c.in_ok-text-in-InputCode.was ∙ e in cc)).input c.exec_on_file.ensures.same_takes (c.exec_on_file.ensures.fault fault)
 
 -- ---- a trial kernel
 
