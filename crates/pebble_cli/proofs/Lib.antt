@@ -13,6 +13,7 @@ pub mod ExecKept
 pub mod ExecLaws
 pub mod GraphKept
 pub mod IdleInputs
+pub mod InputRests
 pub mod KernelAnswers
 pub mod LastAnswers
 pub mod PartStatuses

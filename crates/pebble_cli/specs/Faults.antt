@@ -1,5 +1,6 @@
--- When a run ends with a read fault, that no take was tried in vain, and when the file tells enough to say the answer.
+-- When a run ends with a read fault, that no take was tried in vain, what takes leave of the input, and when the file tells enough to say the answer.
 use Rattle.std.specs.Prelude.{◌≡◌, ℕ, true, List, Option, Some}
+use Rattle.std.specs.Io.KnownBytes.{prepend_known}
 use Rattle.desk_io.specs.declared.desk.Kind.{Kind}
 use Rattle.desk_io.specs.declared.desk.Kind.TheVariants.{TakeInput, TakeFile}
 use Rattle.desk_io.specs.Counts.{Rose}
@@ -18,6 +19,10 @@ pub data ReadCause (command : Option Command) (input : Option (List ℕ)) (befor
 pub record SameTakeFaults (before now : Kind → ℕ) : Type 0 where
   pub input : now TakeInput ≡ before TakeInput
   pub file : now TakeFile ≡ before TakeFile
+
+-- what was taken of the input stood at its front, and the rest is left
+abbrev pub LeavesRest : Option (List ℕ) → Option (List ℕ) → Type 0
+LeavesRest before now = (taken : List ℕ) × (before ≡ prepend_known taken now)
 
 -- the desk tells the file, if the command reads it
 abbrev pub IsFileTold : Option Command → Option (Option (List ℕ)) → Type 0

@@ -22,7 +22,7 @@ ghost use Rattle.command_answers.specs.Status.{IsOfRead};
 ghost use Rattle.command_answers.specs.Subjects.{kernel_text};
 ghost use Rattle.pebble_cli.specs.Answers.{Answers, LastAnswers, IsAdmitted};
 ghost use Rattle.pebble_cli.specs.Deliver.{SameWriteFaults};
-ghost use Rattle.pebble_cli.specs.Faults.{ReadCause, SameTakeFaults};
+ghost use Rattle.pebble_cli.specs.Faults.{ReadCause, SameTakeFaults, LeavesRest};
 ghost use Rattle.pebble_cli.specs.InputAnswers.{AnswersInput};
 
 use crate::reading::{code_input, file_bytes, kernel_input};
@@ -242,6 +242,7 @@ fn command_answer<D: Desk>(
     ensures read_whole { reads_input (Some command) ≡ true →
         IfAnswer result (λ answer. IsOfRead answer.status → D.input desk.new ≡ input_end (D.input desk.old)) }
     ensures untouched { reads_input (Some command) ≡ false → D.input desk.new ≡ D.input desk.old }
+    ensures rest_left { LeavesRest (D.input desk.old) (D.input desk.new) }
     ensures no_vain_take { result ≢ Err EarlyEnd.ReadFault → SameTakeFaults (D.faults desk.old) (D.faults desk.new) }
     ensures write_faults { SameWriteFaults (D.faults desk.old) (D.faults desk.new) }
     ensures same_name { D.name desk.new ≡ D.name desk.old }
@@ -276,6 +277,7 @@ pub fn prepare<D: Desk>(alloc: Global, words: &[String], desk: &mut D) -> Result
     ensures read_whole { reads_input (asked_by words.now) ≡ true →
         IfOk result (λ answer. IsOfRead answer.status → D.input desk.new ≡ input_end (D.input desk.old)) }
     ensures untouched { reads_input (asked_by words.now) ≡ false → D.input desk.new ≡ D.input desk.old }
+    ensures rest_left { LeavesRest (D.input desk.old) (D.input desk.new) }
     ensures no_vain_take { result ≢ Err Status.ReadFault → SameTakeFaults (D.faults desk.old) (D.faults desk.new) }
     ensures write_faults { SameWriteFaults (D.faults desk.old) (D.faults desk.new) }
     ensures same_name { D.name desk.new ≡ D.name desk.old }

@@ -6,7 +6,7 @@ ghost use Rattle.desk_io.specs.Known.{Tells, input_end};
 ghost use Rattle.command_answers.specs.CodeInputs.{IsNoCode};
 ghost use Rattle.command_answers.specs.MadeAnswers.{Meets, IfRefused, IsFileOf};
 ghost use Rattle.pebble_cli.specs.Deliver.{SameWriteFaults};
-ghost use Rattle.pebble_cli.specs.Faults.{SameTakeFaults};
+ghost use Rattle.pebble_cli.specs.Faults.{SameTakeFaults, LeavesRest};
 ghost use Rattle.command_answers.specs.Refusals.{IsFaulty};
 
 use command_answers::answer::{EarlyEnd, FileBytes};
@@ -31,6 +31,7 @@ const CODE_LIMIT: u32 = 20_000_000;
 pub fn kernel_input<D: Desk>(alloc: Global, desk: &mut D) -> Result<Vec<u8>, EarlyEnd>
     ensures told { IfOk result (λ text. Tells (D.input desk.old) text.items) }
     ensures whole { OnOk result (D.input desk.new ≡ input_end (D.input desk.old)) }
+    ensures rest_left { LeavesRest (D.input desk.old) (D.input desk.new) }
     ensures refused { IfRefused result (λ answer.
         (text : List ℕ) × Tells (D.input desk.old) text × Meets (IsFaulty text) answer) }
     ensures fault { result ≡ Err EarlyEnd.ReadFault →
@@ -64,6 +65,7 @@ pub fn code_input<D: Desk>(alloc: Global, desk: &mut D) -> Result<Vec<u8>, Early
     ensures told { IfOk result (λ text. Tells (D.input desk.old) text.items) }
     ensures short { IfOk result (λ text. length text.items ≤ 20000000) }
     ensures whole { OnOk result (D.input desk.new ≡ input_end (D.input desk.old)) }
+    ensures rest_left { LeavesRest (D.input desk.old) (D.input desk.new) }
     ensures refused { IfRefused result (λ answer.
         (text : List ℕ) × Tells (D.input desk.old) text × Meets (IsNoCode text) answer) }
     ensures fault { result ≡ Err EarlyEnd.ReadFault →

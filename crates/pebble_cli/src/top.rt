@@ -12,7 +12,7 @@ ghost use Rattle.command_answers.specs.declared.status.Status.{Status};
 ghost use Rattle.pebble_cli.specs.Answers.{Answers, LastAnswers, IsAdmitted};
 ghost use Rattle.command_words.specs.Commands.{reads_input, reads_file, writes_file};
 ghost use Rattle.pebble_cli.specs.Deliver.{Delivered, CutShort, SameWriteFaults};
-ghost use Rattle.pebble_cli.specs.Faults.{ReadCause, SameTakeFaults, IsFileTold};
+ghost use Rattle.pebble_cli.specs.Faults.{ReadCause, SameTakeFaults, LeavesRest, IsFileTold};
 ghost use Rattle.command_answers.specs.PlanAnswers.{IsPlanned};
 ghost use Rattle.command_answers.specs.Status.{IsOfRead, IsYielded, is_last};
 ghost use Rattle.command_words.specs.Words.{asked_by, file_named_by};
@@ -107,6 +107,9 @@ pub fn pebble<D: Desk>(alloc: Global, words: &[String], desk: &mut D) -> Status
     ensures read_whole { reads_input (asked_by words.now) ≡ true → IsOfRead result →
         D.input desk.new ≡ input_end (D.input desk.old) }
     ensures untouched { reads_input (asked_by words.now) ≡ false → D.input desk.new ≡ D.input desk.old }
+
+    // What was taken of the input stood at its front, and the rest is left.
+    ensures rest_left { LeavesRest (D.input desk.old) (D.input desk.new) }
 
     // The file changes only where the command writes it, with an answer of its own or a write fault, and where nothing refuses the input, which
     // the desk tells if the command reads it.

@@ -1,8 +1,9 @@
 -- The answer to the kernel or the code in the input, or to the trial kernel, is the answer to the input.
-use Rattle.std.proofs.Common.{◌≡◌, ◌∙◌, Err, rules, sym, subst}
+use Rattle.std.proofs.Common.{◌≡◌, ◌∙◌, Err, rules, refl, sym, subst}
 use Rattle.desk_io.specs.Known.{Tells}
 use Rattle.command_words.specs.declared.commands.Subject.TheVariants.{InputKernel, InputCode}
 use Rattle.pebble_cli.proofs.SubjectAnswers.{long_answers, told_answers, file_fault, long_code_answers, code_answers, code_file_fault, trial_answers, trial_file_fault, trial_in_limits}
+use Rattle.pebble_cli.proofs.InputRests.{idle_leaves, still_leaves}
 use Rattle.pebble_cli.proofs.prepare.command_answer.Goals as goal
 
 -- ---- a kernel
@@ -29,6 +30,9 @@ returns-in_ok-text-in-InputKernel-clause-fault g c fault =
     file_fault c.args.command (g.D.Desk.input c.args.desk.now) c.deref.result.now (g.D.Desk.faults c.args.desk.now) (g.D.Desk.faults c.kernel_input.new.desk) (g.D.Desk.faults c.kernel_answer.new.desk) told
     (sym c.subject.ensures ∙ c.in-InputKernel.is) c.kernel_input.ensures.same_takes (c.kernel_input.ensures.no_vain_take (λ e. let both = sym c.in_ok-text-in-InputKernel.was ∙ e in cc)).input c.kernel_answer.ensures.same_takes (λ input e. c.kernel_answer.ensures.fault input e fault)
 
+pub returns-in_ok-text-in-InputKernel-clause-rest_left : goal.returns-in_ok-text-in-InputKernel-clause-rest_left
+returns-in_ok-text-in-InputKernel-clause-rest_left g c = still_leaves (g.D.Desk.input c.args.desk.now) _ _ c.kernel_answer.ensures.same_input c.kernel_input.ensures.rest_left
+
 -- ---- a code
 
 pub returns-in_err-text-in-InputCode-clause-answers : goal.returns-in_err-text-in-InputCode-clause-answers
@@ -50,6 +54,9 @@ returns-in_ok-text-in-InputCode-clause-fault g c fault =
     code_file_fault c.args.command (g.D.Desk.input c.args.desk.now) c.deref-in-InputCode.result.now (g.D.Desk.faults c.args.desk.now) (g.D.Desk.faults c.code_input.new.desk)
     (g.D.Desk.faults c.exec_on_file.new.desk) told (sym c.subject.ensures ∙ c.in-InputCode.is) c.code_input.ensures.same_takes (c.code_input.ensures.no_vain_take (λ e. let both = sym c.in_ok-text-in-InputCode.was ∙ e in cc)).input c.exec_on_file.ensures.same_takes (c.exec_on_file.ensures.fault fault)
 
+pub returns-in_ok-text-in-InputCode-clause-rest_left : goal.returns-in_ok-text-in-InputCode-clause-rest_left
+returns-in_ok-text-in-InputCode-clause-rest_left g c = still_leaves (g.D.Desk.input c.args.desk.now) _ _ c.exec_on_file.ensures.same_input c.code_input.ensures.rest_left
+
 -- ---- a trial kernel
 
 pub trial-requires : goal.trial-requires
@@ -64,3 +71,9 @@ pub returns-in_ok-kernel-in-TrialKernel-clause-fault : goal.returns-in_ok-kernel
 returns-in_ok-kernel-in-TrialKernel-clause-fault g c fault =
     trial_file_fault c.args.command c.in-TrialKernel.statements c.deref-in-TrialKernel.result.now (g.D.Desk.faults c.args.desk.now) (g.D.Desk.faults c.kernel_answer-in-TrialKernel.new.desk)
     (sym c.subject.ensures ∙ c.in-TrialKernel.is) (c.deref-in-TrialKernel.ensures.value ∙ c.in_ok-kernel-in-TrialKernel.ensures) (λ input e. c.kernel_answer-in-TrialKernel.ensures.fault input e fault)
+
+pub returns-in_err-kernel-in-TrialKernel-clause-rest_left : goal.returns-in_err-kernel-in-TrialKernel-clause-rest_left
+returns-in_err-kernel-in-TrialKernel-clause-rest_left g c = idle_leaves (g.D.Desk.input c.args.desk.now) _ refl
+
+pub returns-in_ok-kernel-in-TrialKernel-clause-rest_left : goal.returns-in_ok-kernel-in-TrialKernel-clause-rest_left
+returns-in_ok-kernel-in-TrialKernel-clause-rest_left g c = idle_leaves (g.D.Desk.input c.args.desk.now) _ c.kernel_answer-in-TrialKernel.ensures.same_input

@@ -6,6 +6,7 @@ use Rattle.pebble_cli.specs.InputAnswers.{AnswersInput}
 use Rattle.command_words.specs.Words.{asked_by}
 use Rattle.std.specs.Prelude.{Some}
 use Rattle.pebble_cli.proofs.SubjectAnswers.{usage_answers}
+use Rattle.pebble_cli.proofs.InputRests.{idle_leaves}
 use Rattle.pebble_cli.proofs.prepare.prepare.Goals as goal
 
 pub returns-in-None-clause-answers : goal.returns-in-None-clause-answers
@@ -30,3 +31,6 @@ returns-in-Err-ReadFault-clause-refusal g c =
       subst (λ k. ReadCause k (g.D.Desk.input c.args.desk.now) (g.D.Desk.faults c.args.desk.now) (g.D.Desk.faults c.command_answer.new.desk)) c.in-Some.ensures.value
           (c.in-Err-ReadFault.ensures.fault (ap Err c.in-Err-ReadFault.field-0-is)),
     )
+
+pub returns-in-None-clause-rest_left : goal.returns-in-None-clause-rest_left
+returns-in-None-clause-rest_left g c = idle_leaves (g.D.Desk.input c.args.desk.now) _ refl

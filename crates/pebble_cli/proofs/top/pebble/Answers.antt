@@ -7,6 +7,7 @@ use Rattle.pebble_cli.proofs.AnswerLaws.{kind_of, last_always, last_only, one_an
 use Rattle.pebble_cli.proofs.IdleInputs.{answers_text}
 use Rattle.pebble_cli.proofs.Delivering.{cut_rose, cut_from, then_same, cut_keeps, cause_of_end, no_table_keeps, cause_rose, no_cause, end_is_yielded, end_is_no_answer, end_is_not_of_read, write_fault_is_not_of_read, end_is_fault_or_none, end_is_no_verdict, end_without_cause, answer_is_no_end, no_memory_is_no_fault, verdict_of_plan}
 use Rattle.command_answers.proofs.ToldBytes.{told_is}
+use Rattle.pebble_cli.proofs.InputRests.{still_leaves}
 use Rattle.pebble_cli.proofs.top.pebble.Goals as goal
 
 -- ---- the answer was delivered
@@ -117,6 +118,9 @@ returns-in-Ok-deliver-clause-refused_keep g c asked text asks input refused =
     let none = refused_without_table asked text (g.D.Desk.file c.args.desk.now) answer.status answer.text.items (file_items answer.table) refused (kind_of asked asks here) in
     no_table_keeps _ _ _ none c.in-Ok-deliver.ensures.ok.written ∙ c.prepare.ensures.same_file
 
+pub returns-in-Ok-deliver-clause-rest_left : goal.returns-in-Ok-deliver-clause-rest_left
+returns-in-Ok-deliver-clause-rest_left g c = still_leaves (g.D.Desk.input c.args.desk.now) _ _ c.deliver.ensures.same_input c.prepare.ensures.rest_left
+
 -- ---- a write failed
 
 pub returns-clause-write_fault : goal.returns-clause-write_fault
@@ -167,6 +171,9 @@ returns-clause-refused_keep g c asked text asks input refused =
     let here = answers_text (asked_by c.args.words.now) _ told.0 text (g.D.Desk.file c.args.desk.now) answer.status answer.text.items (file_items answer.table) told.1 input told.2 in
     let none = refused_without_table asked text (g.D.Desk.file c.args.desk.now) answer.status answer.text.items (file_items answer.table) refused (kind_of asked asks here) in
     cut_keeps g.D.Desk.file g.D.Desk.output g.D.Desk.faults _ _ _ _ none c.in-Err-deliver.ensures.fault ∙ c.prepare.ensures.same_file
+
+pub returns-clause-rest_left : goal.returns-clause-rest_left
+returns-clause-rest_left g c = still_leaves (g.D.Desk.input c.args.desk.now) _ _ c.deliver.ensures.same_input c.prepare.ensures.rest_left
 
 -- ---- there is no answer
 
