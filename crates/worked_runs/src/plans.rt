@@ -180,10 +180,25 @@ struct Failure {
     file: &'static [u8],
 }
 
-const FAILURES: [Failure; 5] = [
+const FAILURES: [Failure; 8] = [
     Failure {
         kind: Kind::TakeInput,
         nth: 0,
+        status: Status::ReadFault,
+        output: b"",
+        file: b"old",
+    },
+    // The take 35 would bring the last byte of the kernel, and the take 36 find the end.
+    Failure {
+        kind: Kind::TakeInput,
+        nth: 35,
+        status: Status::ReadFault,
+        output: b"",
+        file: b"old",
+    },
+    Failure {
+        kind: Kind::TakeInput,
+        nth: 36,
         status: Status::ReadFault,
         output: b"",
         file: b"old",
@@ -197,10 +212,17 @@ const FAILURES: [Failure; 5] = [
     },
     Failure {
         kind: Kind::PutFile,
-        nth: 2,
+        nth: 0,
         status: Status::WriteFault,
         output: b"",
-        file: b"RB",
+        file: b"",
+    },
+    Failure {
+        kind: Kind::PutFile,
+        nth: 5,
+        status: Status::WriteFault,
+        output: b"",
+        file: b"RBPT\0",
     },
     Failure {
         kind: Kind::PutOutput,
