@@ -1,4 +1,4 @@
-//! Laws of the texts that the program accepts, and of the answers. A call does nothing: its contract is the law.
+//! Laws of the answers of all commands. A call does nothing: its contract is the law.
 
 pub mod answers;
 pub mod cache;
