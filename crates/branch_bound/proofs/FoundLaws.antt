@@ -25,9 +25,9 @@ use Rattle.search_laws.specs.SearchLaws.{IsNoWorse}
 use Rattle.search_laws.proofs.Entries.{rows_apart}
 use Rattle.search_laws.proofs.Count.{enough_budget_is_optimal}
 use Rattle.search_laws.proofs.Results.{search_has, plan_is_no_worse, searched_table_is_valid, few_rows_are_optimal, open_fills_budget}
-use Rattle.search_packing.specs.Shortcut.{IsLeastPlace}
-use Rattle.search_packing.specs.Turning.{IsDone}
-use Rattle.search_packing.proofs.Bounds.{bound_is_support, row_places}
+use Rattle.search_laws.specs.Shortcut.{IsLeastPlace}
+use Rattle.search_laws.specs.Turning.{IsDone}
+use Rattle.search_laws.proofs.Bounds.{bound_is_support, row_places}
 use Rattle.branch_bound.specs.declared.frontier.Best.{Best}
 use Rattle.branch_bound.specs.declared.frontier.Frontier.{Frontier}
 use Rattle.branch_bound.specs.Frontiers.{HasEnded, store_of, best_of, IsFrontier, rows_below}
@@ -169,11 +169,33 @@ table_closes ends g dag first finishing budget cost table same at large =
     (support_ignores_order g table.rows (rows_searched g first budget) cost table.bound (λ r. ((at.rows r).1, (at.rows r).0)) at.support))
     ∙ same
 
-pub found_is : FloorOfFinish → (first : PlanParts) → IsGame first.game → IsPlan first → (budget : ℕ) (f : Frontier) (b : Best) → IsDone (game_of first.game) first.steps budget (store_of f) (best_of b)
+-- the table can be spelled in bytes
+table_in_range : (game : GameParts) → IsGame game → (first : List Step) (budget cost : ℕ) → budget ≤ 150000 → (table : TableParts) → IsSearchedTable (game_of game) first budget cost table → IsInRange table
+table_in_range game is first budget cost most table at =
+    let few = at.few in
+    let vertices = at.of_game.vertices in
+    let small = is.valid.small in
+    let some_load = is.weights.load_some in
+    let some_store = is.weights.store_some in
+    let room = is.room in
+    record {
+      vertices = omega (arith, vertices, small);
+      some_slots = let slots = at.of_game.slots in omega (arith, slots, room);
+      slots = let slots = at.of_game.slots in let most = is.most in omega (arith, slots, most);
+      some_load = let load = at.of_game.load in omega (arith, load, some_load);
+      load = let load = at.of_game.load in let most = is.weights.load_most in omega (arith, load, most);
+      some_store = let store = at.of_game.store in omega (arith, store, some_store);
+      store = let store = at.of_game.store in let most = is.weights.store_most in omega (arith, store, most);
+      few = omega (arith, few, most);
+      red = λ r i. record { below = λ v m. let less = (at.of_game.valid.sound r i).red_below v m in omega (arith, vertices, less) };
+      blue = λ r i. record { below = λ v m. let less = (at.of_game.valid.sound r i).blue_below v m in omega (arith, vertices, less) };
+    }
+
+pub found_is : FloorOfFinish → (first : PlanParts) → IsGame first.game → IsPlan first → (budget : ℕ) → budget ≤ 150000 → (f : Frontier) (b : Best) → IsDone (game_of first.game) first.steps budget (store_of f) (best_of b)
     → (found : Found) → found.plan.game ≡ first.game → found.plan.steps ≡ (searched (game_of first.game) first.steps budget).plan → IsPlan found.plan → found.first_cost ≡ first.total
     → IsSearchedTable (game_of first.game) first.steps budget b.cost found.table → (found.verdict ≡ Optimal) ↔ (found.table.bound ≡ b.cost) → (found.verdict ≡ Open) ↔ (found.table.bound ≢ b.cost)
     → IsFound first budget found
-found_is ends first is valid budget f b done found same_game steps plan first_cost table optimal other =
+found_is ends first is valid budget most f b done found same_game steps plan first_cost table optimal other =
     let cost : found.plan.total ≡ b.cost = plan_costs ends first.game is first.steps valid.finishing budget f b done found.plan plan same_game steps in
     let no_more = costs_no_more ends first.game is first.steps valid.finishing budget f b done in
     let first_costs = valid.costs in
@@ -183,6 +205,7 @@ found_is ends first is valid budget f b done found same_game steps plan first_co
       first_cost = first_cost;
       no_more = omega (arith, cost, no_more, first_costs);
       table = subst (λ cost. IsSearchedTable (game_of first.game) first.steps budget cost found.table) (sym cost) table;
+      in_range = table_in_range first.game is first.steps budget b.cost most found.table table;
       is_optimal = (λ is. optimal.0 is ∙ sym cost, λ same. optimal.1 (same ∙ cost));
       is_open = (
         λ is.
@@ -193,26 +216,4 @@ found_is ends first is valid budget f b done found same_game steps plan first_co
         λ both. other.1 (λ same. let less = both.1 in absurd (omega (arith, less, same, cost))),
       );
       enough = λ large. optimal.1 (table_closes ends (game_of first.game) (IsDag-dag_of first.game.graph is.valid) first.steps valid.finishing budget b.cost found.table done.packs.cost table large);
-    }
-
--- the table can be spelled in bytes
-pub found_in_range : (first : PlanParts) → IsGame first.game → (budget : ℕ) → budget ≤ 150000 → (found : Found) → IsFound first budget found → IsInRange found.table
-found_in_range first is budget most found at =
-    let few = at.table.few in
-    let vertices = at.table.of_game.vertices in
-    let small = is.valid.small in
-    let some_load = is.weights.load_some in
-    let some_store = is.weights.store_some in
-    let room = is.room in
-    record {
-      vertices = omega (arith, vertices, small);
-      some_slots = let slots = at.table.of_game.slots in omega (arith, slots, room);
-      slots = let slots = at.table.of_game.slots in let most = is.most in omega (arith, slots, most);
-      some_load = let load = at.table.of_game.load in omega (arith, load, some_load);
-      load = let load = at.table.of_game.load in let most = is.weights.load_most in omega (arith, load, most);
-      some_store = let store = at.table.of_game.store in omega (arith, store, some_store);
-      store = let store = at.table.of_game.store in let most = is.weights.store_most in omega (arith, store, most);
-      few = omega (arith, few, most);
-      red = λ r i. record { below = λ v m. let less = (at.table.of_game.valid.sound r i).red_below v m in omega (arith, vertices, less) };
-      blue = λ r i. record { below = λ v m. let less = (at.table.of_game.valid.sound r i).blue_below v m in omega (arith, vertices, less) };
     }

@@ -23,8 +23,8 @@ use Rattle.potential_cert.specs.Order.{precedes}
 use Rattle.search_laws.specs.Search.{is_expanded}
 use Rattle.search_laws.proofs.Lists.{append_cases, in_left, in_right}
 use Rattle.search_laws.proofs.Tests.{contains_in, in_contains}
-use Rattle.search_packing.specs.Packing.{Store}
-use Rattle.search_packing.proofs.Bounds.{row_at}
+use Rattle.search_laws.specs.Packing.{Store}
+use Rattle.search_laws.proofs.Bounds.{row_at}
 use Rattle.branch_bound.specs.Frontiers.{StandApart, rows_below}
 
 -- ---- the rows among the places

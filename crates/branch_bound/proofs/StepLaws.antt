@@ -1,5 +1,5 @@
 -- A step from a row is tried.
-use Rattle.std.proofs.Common.{◌≡◌, ℕ, zero, suc, ◌+◌, ◌*◌, ◌/◌, ◌≤◌, ◌<◌, true, false, List, [], ◌∷◌, ◌++◌, length, length-append, take, drop, get_or, eqb, ltb, ◌&&◌, ◌%◌, ◌⊎◌, inl, inr, Some, refl, sym, ap, ◌∙◌, subst, arith}
+use Rattle.std.proofs.Common.{◌≡◌, ℕ, ◌+◌, ◌*◌, ◌≤◌, ◌<◌, true, false, List, [], ◌∷◌, ◌++◌, length, length-append, inl, inr, Some, refl, sym, ap, ◌∙◌, subst, arith}
 use Rattle.comp_graph.specs.Vertices.{size}
 use Rattle.comp_graph.specs.Dags.{IsDag}
 use Rattle.comp_graph.specs.Games.{PebbleGame, GameParts, IsGame, game_of}
@@ -21,9 +21,9 @@ use Rattle.search_laws.specs.Search as search
 use Rattle.search_laws.proofs.Lists.{in_right}
 use Rattle.search_laws.proofs.Tests.{legal_steps_legal, can_finish_true, true_can_finish}
 use Rattle.position_arena.specs.Arenas.{slot_at, IsAbsent, IsWithinWords}
-use Rattle.search_packing.specs.Packing.{IsPut}
-use Rattle.search_packing.specs.Turning.{IsExpanding, AreTried}
-use Rattle.search_packing.proofs.Turning.{still_expanding, tried_none, tried_more, tried_beaten, tried_beaten_at, tried_known, tried_finishing, new_place, tried_new, tried_again}
+use Rattle.search_laws.specs.Packing.{IsPut}
+use Rattle.search_laws.specs.Turning.{IsExpanding, AreTried}
+use Rattle.search_laws.proofs.Turning.{still_expanding, tried_none, tried_more, tried_beaten, tried_beaten_at, tried_known, tried_finishing, new_place, tried_new, tried_again}
 use Rattle.branch_bound.specs.declared.frontier.Best.{Best}
 use Rattle.branch_bound.specs.declared.frontier.Frontier.{Frontier}
 use Rattle.branch_bound.specs.Frontiers.{place_at, place_of, store_of, best_of, IsFrontier, HasTried, IsTrying, HasExpanded}

@@ -7,6 +7,7 @@ use Rattle.normal_steps.specs.declared.step.Step.{Step}
 use Rattle.potential_cert.specs.Table.{TableParts, IsSupport}
 use Rattle.potential_cert.specs.TableLaws.{HaveSameMembers}
 use Rattle.potential_cert.specs.GameTables.{IsTableOf}
+use Rattle.potential_cert.specs.TableBytes.{IsInRange}
 use Rattle.search_laws.specs.Search.{searched, rows_searched}
 use Rattle.branch_bound.specs.declared.searching.Found.{Found}
 use Rattle.branch_bound.specs.declared.searching.Verdict.TheVariants.{Optimal, Open}
@@ -20,14 +21,15 @@ pub record IsSearchedTable (g : PebbleGame) (first : List Step) (budget cost : �
   pub support : IsSupport g table.rows cost table.bound
   pub fills : table.bound < cost → length table.rows ≡ budget
 
--- the plan and the table are those of the search from the first plan, and the verdict says whether the bound is the plan's cost; it is, where
--- the budget is at least the number of positions whose blue vertices hold the inputs
+-- the plan and the table are those of the search from the first plan, the table can be written, and the verdict says whether the bound is the
+-- plan's cost; it is, where the budget is at least the number of positions whose blue vertices hold the inputs
 pub record IsFound (first : PlanParts) (budget : ℕ) (found : Found) : Type 0 where
   pub game : found.plan.game ≡ first.game
   pub steps : found.plan.steps ≡ (searched (game_of first.game) first.steps budget).plan
   pub first_cost : found.first_cost ≡ first.total
   pub no_more : found.plan.total ≤ first.total
   pub table : IsSearchedTable (game_of first.game) first.steps budget found.plan.total found.table
+  pub in_range : IsInRange found.table
   pub is_optimal : (found.verdict ≡ Optimal) ↔ (found.table.bound ≡ found.plan.total)
   pub is_open : (found.verdict ≡ Open) ↔ ((length found.table.rows ≡ budget) × (found.table.bound < found.plan.total))
   pub enough : 2 ^ (2 * (game_of first.game).dag.count - size (game_of first.game).dag.inputs) ≤ budget → found.verdict ≡ Optimal

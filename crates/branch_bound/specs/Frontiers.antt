@@ -11,8 +11,8 @@ use Rattle.potential_cert.specs.declared.tables.Row.{Row}
 use Rattle.position_arena.specs.declared.rows.Head.{Head}
 use Rattle.position_arena.specs.Arenas.{Arena, IsWithinWords, slot_at}
 use Rattle.search_laws.specs.Search as search
-use Rattle.search_packing.specs.Packing as packing
-use Rattle.search_packing.specs.Turning.{IsExpanding, AreTried, IsUnderWay, IsDone}
+use Rattle.search_laws.specs.Packing as packing
+use Rattle.search_laws.specs.Turning.{IsExpanding, AreTried, IsUnderWay, IsDone}
 use Rattle.branch_bound.specs.Queues.{queue_at}
 use Rattle.branch_bound.specs.declared.frontier.Mark.{Mark}
 use Rattle.branch_bound.specs.declared.frontier.Mark.TheVariants.{Waiting, Expanded, GivenUp}

@@ -5,9 +5,9 @@ ghost use Rattle.normal_steps.specs.Sound.{IsSound};
 ghost use Rattle.normal_steps.specs.Steps.{IsStep};
 ghost use Rattle.position_arena.specs.Arenas.{IsAbsent, IsWithinWords};
 ghost use Rattle.search_laws.specs.Search as search;
-ghost use Rattle.search_packing.specs.Packing.{IsPut};
-ghost use Rattle.search_packing.specs.Shortcut.{IsLeastPlace};
-ghost use Rattle.search_packing.specs.Turning.{IsExpanding, Stops, FindsNext};
+ghost use Rattle.search_laws.specs.Packing.{IsPut};
+ghost use Rattle.search_laws.specs.Shortcut.{IsLeastPlace};
+ghost use Rattle.search_laws.specs.Turning.{IsExpanding, Stops, FindsNext};
 ghost use Rattle.branch_bound.specs.Frontiers.{IsFrontier, mark_of, store_of, best_of, place_at, place_of, HasTried, HasExpanded, IsPacked, IsPlayOf, rows_below};
 
 use crate::cost_queues::CostQueues;
@@ -18,6 +18,7 @@ use pebble_rules::Position;
 use position_arena::{Head, Rows};
 use potential_cert::Row;
 use std::alloc::Global;
+use std::sync::ledger::Ledger;
 
 /// What became of a position: it waits, is a row, or no play through it can beat the plan.
 #[derive(Clone, Copy)]
@@ -64,7 +65,8 @@ pub struct Best {
     pub step: Step,
 }
 
-/// The positions that got a cost.
+/// The positions that got a cost. After `NoMemory` from one of its calls a position may have a note and no row, or wait in no queue: it is
+/// good for nothing then but to be dropped, as the searches do.
 #[derive(Drop)]
 pub struct Frontier {
     pub rows: Rows,
@@ -201,8 +203,14 @@ impl Frontier {
         Ok(())
     }
 
-    /// Tries each legal step from the row at the place `k`.
-    pub fn expand(&mut self, game: &Game, k: u32, best: &mut Best) -> Result<(), NoMemory>
+    /// Tries each legal step from the row at the place `k`. That is one tick of `steps`, which only this call makes.
+    pub fn expand<L: Ledger>(
+        &mut self,
+        game: &Game,
+        k: u32,
+        best: &mut Best,
+        steps: &mut step_count::Steps<L>,
+    ) -> Result<(), NoMemory>
         requires game { IsGame game.now }
         requires frontier { IsFrontier self.old }
         requires wide { length game.now.graph.nodes ≤ 64 * self.old.rows.words }
@@ -210,8 +218,10 @@ impl Frontier {
         requires current { self.old.queues.current ≡ (place_at self.old k).cost }
         requires sound { IsSound (game_of game.now) (place_at self.old k).position }
         requires room { length self.old.rows.slots < 4000000000 }
-        ensures { OnOk result (HasExpanded (game_of game.now) k self.old self.new best.old best.new) }
+        ensures expanded { OnOk result (HasExpanded (game_of game.now) k self.old self.new best.old best.new) }
+        ensures steps { steps.new ≡ steps.old + 1 }
     {
+        steps.tick();
         let p = self.rows.position(k);
         let cost = self.rows.head(k).cost;
         for step in Steps::new(game, &p) {

@@ -4,7 +4,5 @@
 pub mod cost_queues;
 pub mod frontier;
 pub mod searching;
-#[cfg(test)]
-mod tests;
 
-pub use searching::{Found, Verdict, search};
+pub use searching::{Found, Verdict, search, search_counted};

@@ -6,7 +6,7 @@ ghost use Rattle.normal_steps.specs.Plans.{IsPlan};
 ghost use Rattle.normal_steps.specs.Steps.{IsFinishing, total_cost};
 ghost use Rattle.potential_cert.specs.Order.{precedes};
 ghost use Rattle.search_laws.specs.Search.{Search};
-ghost use Rattle.search_packing.specs.Turning.{IsDone};
+ghost use Rattle.search_laws.specs.Turning.{IsDone};
 ghost use Rattle.branch_bound.specs.Frontiers.{HasEnded, IsFrontier, IsSearched, IsSearching, store_of, best_of, rows_below};
 ghost use Rattle.branch_bound.specs.declared.searching.Verdict.TheVariants.{Optimal, Open};
 ghost use Rattle.branch_bound.specs.Founds.{IsSearchedTable, IsFound};
@@ -20,6 +20,9 @@ use pebble_rules::Position;
 use position_arena::{Head, Rows};
 use potential_cert::{Row, Table};
 use std::alloc::Global;
+use std::marker::Brand;
+use std::sync::ledger::{Blank, Ledger};
+use step_count::Steps;
 
 /// Whether the bound is the plan's cost.
 #[derive(Clone, Copy, Debug, PartialEq, Eq)]
@@ -83,13 +86,14 @@ pub fn begin(
     Ok(frontier)
 }
 
-// The search from a first plan, with at most so many rows.
-fn run(
+// The search from a first plan, with at most so many rows. A tick is a place that is expanded.
+fn run<L: Ledger>(
     alloc: Global,
     game: &Game,
     first: &[Step],
     first_cost: u32,
     budget: u32,
+    steps: &mut Steps<L>,
 ) -> Result<Searched, NoMemory>
     requires game { IsGame game.now }
     requires finishing { IsFinishing (game_of game.now) (start (game_of game.now)) first.now }
@@ -97,6 +101,7 @@ fn run(
     requires budget { budget ≤ 150000 }
     ensures searched { IfOk result (IsSearched (game_of game.now) first.now budget) }
     ensures frontier { IfOk result (λ s. IsFrontier s.frontier) }
+    ensures steps { steps.new ≤ steps.old + budget }
 {
     forced_bounds::laws::floor_at_ends();
     let mut best = Best {
@@ -108,7 +113,7 @@ fn run(
     for turn in 0..budget {
         match frontier.next(&best) {
             None => return Ok(Searched { frontier, best }),
-            Some(k) => frontier.expand(game, k, &mut best)?,
+            Some(k) => frontier.expand(game, k, &mut best, steps)?,
         }
     }
     Ok(Searched { frontier, best })
@@ -194,19 +199,28 @@ pub fn verdict_on(bound: u32, cost: u32) -> Verdict
 /// 150,000, each of which makes a row. Plan and rows are those of the definition (`searched` in `search_laws`), which fixes the order, so
 /// they are the same at each call. The steps of the plan that is handed in may be any; `first_plan` has one.
 ///
+/// A tick of `steps` is a position that is expanded: its legal steps are tried, by `Frontier::expand`, the one call that tries them. There
+/// are at most `budget` of them, also where memory was wanted and not found.
+///
 /// # Errors
 ///
 /// `NoMemory` where memory was wanted and not found. The plan that was handed in is dropped then. How much memory and time a search takes
 /// no contract says; memory grows with the number of positions that got a cost, which is at most 384 for each row.
-pub fn search<'g>(alloc: Global, first: Plan<'g>, budget: u32) -> Result<Found<'g>, NoMemory>
+pub fn search_counted<'g, L: Ledger>(
+    alloc: Global,
+    first: Plan<'g>,
+    budget: u32,
+    steps: &mut Steps<L>,
+) -> Result<Found<'g>, NoMemory>
     requires { budget ≤ 150000 }
-    ensures { IfOk result (IsFound first.entry budget) }
+    ensures found { IfOk result (IsFound first.entry budget) }
+    ensures steps { steps.new ≤ steps.old + budget }
 {
     forced_bounds::laws::floor_at_ends();
     let game = first.game();
     let _slots = game.slots();
     let first_cost = first.total();
-    let Searched { frontier, best } = run(alloc, game, first.steps(), first_cost, budget)?;
+    let Searched { frontier, best } = run(alloc, game, first.steps(), first_cost, budget, steps)?;
     let table = table_of(alloc, game, first.steps(), &frontier, &best, budget)?;
     let verdict = verdict_on(table.bound, best.cost);
     let plan = best_plan(alloc, first, &frontier, &best)?;
@@ -216,4 +230,33 @@ pub fn search<'g>(alloc: Global, first: Plan<'g>, budget: u32) -> Result<Found<'
         table,
         verdict,
     })
+}
+
+// The search, with its steps in a ledger of its own.
+fn search_uncounted<'g, L: Ledger>(
+    alloc: Global,
+    first: Plan<'g>,
+    budget: u32,
+    blank: Blank,
+) -> Result<Found<'g>, NoMemory>
+    requires budget { budget ≤ 150000 }
+    requires name { blank.name ≡ L.name }
+    requires parts { blank.parts ≡ L.parts }
+    requires some { 0 < L.parts }
+    ensures { IfOk result (IsFound first.entry budget) }
+{
+    let mut steps = Steps::<L>::new(blank);
+    search_counted(alloc, first, budget, &mut steps)
+}
+
+/// The search of [`search_counted`], where no one counts its steps.
+///
+/// # Errors
+///
+/// `NoMemory` where memory was wanted and not found, as there.
+pub fn search<'g>(alloc: Global, first: Plan<'g>, budget: u32) -> Result<Found<'g>, NoMemory>
+    requires { budget ≤ 150000 }
+    ensures { IfOk result (IsFound first.entry budget) }
+{
+    search_uncounted::<Brand>(alloc, first, budget, Blank::new(1))
 }

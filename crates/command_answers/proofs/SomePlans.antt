@@ -25,7 +25,7 @@ use Rattle.search_laws.proofs.Tests.{true_leb}
 use Rattle.search_laws.proofs.Entries.{rows_apart}
 use Rattle.search_laws.proofs.Turns.{HasExpanded, played_sound, has_expanded, settled_of, settles, search_stops, search_goes, search_ends}
 use Rattle.search_laws.proofs.Results.{begun_rows, begun_stands, search_has, row_reached, searched_table_is_valid, few_rows_are_optimal, open_fills_budget}
-use Rattle.search_packing.proofs.Shortcut.{support_is_least_waiting}
+use Rattle.search_laws.proofs.Shortcut.{support_is_least_waiting}
 use Rattle.branch_bound.specs.Founds.{IsSearchedTable}
 use Rattle.branch_bound.proofs.FoundLaws.{length_within}
 use Rattle.branch_bound.proofs.RowLaws.{IsSmall}

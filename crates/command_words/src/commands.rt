@@ -5,7 +5,7 @@ use comp_graph::Weights;
 pub const UNIT_WEIGHTS: Weights = Weights { load: 1, store: 1 };
 
 /// What the words ask for.
-#[derive(Clone, Copy, Debug, PartialEq, Eq)]
+#[derive(Clone, Copy, PartialEq, Eq)]
 pub enum Command {
     /// `plan`: a plan.
     Plan(Planning),
@@ -34,7 +34,7 @@ pub enum Command {
 }
 
 /// What `plan` asks for.
-#[derive(Clone, Copy, Debug, PartialEq, Eq)]
+#[derive(Clone, Copy, PartialEq, Eq)]
 pub struct Planning {
     /// The number of slots, from 1 to 64.
     pub slots: u16,
@@ -45,7 +45,7 @@ pub struct Planning {
 }
 
 /// What `check` asks for.
-#[derive(Clone, Copy, Debug, PartialEq, Eq)]
+#[derive(Clone, Copy, PartialEq, Eq)]
 pub struct Checking {
     /// The number of slots, from 1 to 64.
     pub slots: u16,
@@ -54,7 +54,7 @@ pub struct Checking {
 }
 
 /// What `trial` asks for.
-#[derive(Clone, Copy, Debug, PartialEq, Eq)]
+#[derive(Clone, Copy, PartialEq, Eq)]
 pub struct TrialPlanning {
     /// The number of statements of the kernel, from 1 to 200.
     pub statements: u32,
@@ -63,7 +63,7 @@ pub struct TrialPlanning {
 }
 
 /// What `cover` asks for. A load and a store cost 1.
-#[derive(Clone, Copy, Debug, PartialEq, Eq)]
+#[derive(Clone, Copy, PartialEq, Eq)]
 pub struct Covering {
     /// The number of slots, from 1 to 64.
     pub slots: u16,
@@ -72,7 +72,7 @@ pub struct Covering {
 }
 
 /// What `parts` asks for. A load and a store cost 1.
-#[derive(Clone, Copy, Debug, PartialEq, Eq)]
+#[derive(Clone, Copy, PartialEq, Eq)]
 pub struct PartPlanning {
     /// The number of slots, from 1 to 64.
     pub slots: u16,
@@ -83,7 +83,7 @@ pub struct PartPlanning {
 }
 
 /// What `cache` asks for. A load and a store cost 1.
-#[derive(Clone, Copy, Debug, PartialEq, Eq)]
+#[derive(Clone, Copy, PartialEq, Eq)]
 pub struct Caching {
     /// The number of slots, and of lines of the cache, from 1 to 64.
     pub slots: u16,
@@ -92,7 +92,7 @@ pub struct Caching {
 }
 
 /// What a command works on.
-#[derive(Clone, Copy, Debug, PartialEq, Eq)]
+#[derive(Clone, Copy, PartialEq, Eq)]
 pub enum Subject {
     /// The kernel whose text the input is.
     InputKernel,

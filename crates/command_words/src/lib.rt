@@ -4,8 +4,6 @@
 pub mod commands;
 pub mod laws;
 pub mod read;
-#[cfg(test)]
-mod tests;
 
 pub use commands::{
     Caching, Checking, Command, Covering, PartPlanning, Planning, Subject, TrialPlanning,

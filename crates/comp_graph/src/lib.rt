@@ -14,8 +14,6 @@ pub mod laws;
 pub mod memory;
 pub mod node;
 pub mod operation;
-#[cfg(test)]
-mod tests;
 pub mod vertex_set;
 
 pub use costs::Weights;

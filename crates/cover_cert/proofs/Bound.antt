@@ -14,7 +14,7 @@ use Rattle.pebble_rules.proofs.Possible.{true_or_false}
 use Rattle.normal_steps.specs.Steps.{IsStep, stepped, step_cost, IsFinishing, total_cost, work_vertices}
 use Rattle.normal_steps.specs.Subsequences.{IsSubsequence, none, left_out, kept}
 use Rattle.normal_steps.specs.Simulation.{PlaysCostNoMore}
-use Rattle.normal_steps.specs.PlanMoves.{play_moves, PlaysArePebblings}
+use Rattle.normal_steps.specs.PlanMoves.{PlaysArePebblings}
 use Rattle.normal_steps.specs.Sound.{IsSound}
 use Rattle.normal_steps.specs.StepTests.{legal_steps}
 use Rattle.normal_steps.specs.declared.step.Step.{Step}
@@ -29,7 +29,7 @@ use Rattle.potential_cert.specs.Places.{IsAt}
 use Rattle.cover_cert.specs.declared.tables.Cover.{Cover}
 use Rattle.cover_cert.specs.CoverTable.{CoverRowParts, IsNamed, IsCoveredBy, IsCoverTable, StepHolds, plain}
 use Rattle.cover_cert.specs.CoverLaws.{CoverBoundIsBelowPlays, CoverBoundIsBelowPebblings}
-use Rattle.cover_cert.proofs.Covered.{live_in, in_live, covers_follows, covers_start}
+use Rattle.cover_cert.proofs.Covered.{live_in, in_live, covers_follows, covers_start, covering_costs_no_more}
 use Rattle.potential_cert.proofs.Places.{at_in, contains_at}
 use Rattle.search_laws.proofs.Lists.{map_in}
 
@@ -138,14 +138,8 @@ module _ (below : FloorIsBelowPlays) (follow : PlaysCostNoMore) (played : PlaysA
 
   answered : (q : Position) → size q.red ≤ g.slots → (ss : List Step) → IsFinishing g q ss → (p : Position) → Covers g p q → Answer q ss p
   answered q fits ss finishing p covers =
-      let moves = played g dag q fits ss finishing in
-      let answer = follow g dag q p (covers_follows g p q covers) (play_moves g q ss) moves.complete in
-      record {
-        plays = answer.steps;
-        finishing = answer.finishing;
-        costs = let costs = answer.costs in let same = moves.costs in omega arith;
-        few = let few = shorter _ _ answer.works in let many = ap length moves.computes in omega arith;
-      }
+      let answer = covering_costs_no_more follow played g dag p q covers fits ss finishing in
+      record { plays = answer.steps; finishing = answer.finishing; costs = answer.costs; few = shorter _ _ answer.works }
 
   -- the rest of a play
   rest_finishes : (p : Position) (s : Step) (ss : List Step) → IsFinishing g p (s ∷ ss) → IsFinishing g (stepped g p s) ss

@@ -18,8 +18,8 @@ use Rattle.potential_cert.specs.Table.{IsRising}
 use Rattle.potential_cert.specs.TableLaws.{HaveSameMembers}
 use Rattle.search_laws.specs.Search.{begun}
 use Rattle.search_laws.proofs.Lists.{in_map}
-use Rattle.search_packing.specs.Packing.{Store, Best}
-use Rattle.search_packing.proofs.Bounds.{row_places}
+use Rattle.search_laws.specs.Packing.{Store, Best}
+use Rattle.search_laws.proofs.Bounds.{row_places}
 use Rattle.branch_bound.specs.Frontiers.{HasEnded}
 use Rattle.branch_bound.specs.declared.searching.Verdict.TheVariants.{Optimal, Open}
 use Rattle.branch_bound.proofs.RowLaws.{same_rows}
@@ -36,6 +36,7 @@ use Rattle.cover_cert.specs.CoverSearchLaws.{IsCoverNoWorse}
 use Rattle.cover_cert.specs.CoverSupport.{cover_support}
 use Rattle.cover_cert.specs.CoverTable.{CoverRowParts, CoverTableParts, IsCoverSupport, IsCoverTable, plain_rows}
 use Rattle.cover_cert.specs.CoverTurns.{IsCoverDone}
+use Rattle.cover_cert.proofs.CoverRanges.{cover_in_range}
 use Rattle.cover_cert.proofs.MadeLists.{map_each, map_map}
 use Rattle.cover_cert.proofs.Namings.{naming_in}
 use Rattle.cover_cert.proofs.Results.{cover_enough_budget_is_optimal, cover_few_rows_are_optimal, cover_open_fills_budget, cover_plan_is_no_worse, cover_search_has, cover_searched_is_valid, row_sound}
@@ -154,11 +155,11 @@ module _ (ends : FloorOfFinish) (game : GameParts) (is : IsGame game) (first : L
       let cost : searched.search.cost ≡ b.cost = done.packs.cost in
       cover_enough_budget_is_optimal ends g dag first finishing budget large table.rows at.rows table.bound (subst (λ cost. IsCoverSupport g table.rows cost table.bound) (sym cost) at.support) ∙ cost
 
-pub cover_found_is : FloorOfFinish → (first : PlanParts) → IsGame first.game → IsPlan first → (budget : ℕ) (s : Store) (b : Best) (made : List Made) → IsCoverDone (game_of first.game) first.steps budget s b made
+pub cover_found_is : FloorOfFinish → (first : PlanParts) → IsGame first.game → IsPlan first → (budget : ℕ) → budget ≤ 8000 → (s : Store) (b : Best) (made : List Made) → IsCoverDone (game_of first.game) first.steps budget s b made
     → (found : CoverFound) → found.plan.game ≡ first.game → found.plan.steps ≡ (cover_searched (game_of first.game) first.steps budget).search.plan → IsPlan found.plan → found.first_cost ≡ first.total
     → IsCoverSearchedTable (game_of first.game) first.steps budget b.cost found.table → (found.verdict ≡ Optimal) ↔ (found.table.bound ≡ b.cost) → (found.verdict ≡ Open) ↔ (found.table.bound ≢ b.cost)
     → IsCoverFound first budget found
-cover_found_is ends first is valid budget s b made done found same_game steps plan first_cost table optimal other =
+cover_found_is ends first is valid budget most s b made done found same_game steps plan first_cost table optimal other =
     let cost : found.plan.total ≡ b.cost = plan_costs ends first.game is first.steps valid.finishing budget s b made done found.plan plan same_game steps in
     let no_more = costs_no_more ends first.game is first.steps valid.finishing budget s b made done in
     let first_costs = valid.costs in
@@ -168,6 +169,7 @@ cover_found_is ends first is valid budget s b made done found same_game steps pl
       first_cost = first_cost;
       no_more = omega (arith, cost, no_more, first_costs);
       table = subst (λ cost. IsCoverSearchedTable (game_of first.game) first.steps budget cost found.table) (sym cost) table;
+      in_range = cover_in_range first.game is found.table table.of_game (let few = table.few in omega (arith, few, most));
       is_optimal = (λ is. optimal.0 is ∙ sym cost, λ same. optimal.1 (same ∙ cost));
       is_open = (
         λ is.

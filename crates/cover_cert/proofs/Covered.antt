@@ -1,5 +1,5 @@
 -- What a covering position can do.
-use Rattle.std.proofs.Common.{◌≡◌, ℕ, Bool, true, false, IsTrue, ◌↔◌, sym, ◌∙◌, arith}
+use Rattle.std.proofs.Common.{◌≡◌, ℕ, Bool, true, false, IsTrue, ◌↔◌, sym, ◌∙◌, subst, arith}
 use Rattle.std.specs.FinSet.{intersection}
 use Rattle.comp_graph.specs.Vertices.{Vertices, ◌∈◌}
 use Rattle.comp_graph.specs.Dags.{IsDag, is_live, live_of}
@@ -8,11 +8,15 @@ use Rattle.comp_graph.specs.Sets.{membership, has_set_below}
 use Rattle.comp_graph.proofs.DagLaws.{both, and-true, live_vertex}
 use Rattle.pebble_rules.specs.Rules.{start}
 use Rattle.pebble_rules.specs.declared.position.Position.{Position}
-use Rattle.normal_steps.specs.Simulation.{no_debts, Follows}
+use Rattle.normal_steps.specs.PlanMoves.{PlaysArePebblings, play_moves}
+use Rattle.normal_steps.specs.Simulation.{no_debts, Follows, PlaysCostNoMore}
 use Rattle.normal_steps.specs.Sound.{IsSound}
 use Rattle.normal_steps.specs.StepTests.{is_within}
+use Rattle.normal_steps.specs.Steps.{work_vertices}
+use Rattle.normal_steps.specs.Subsequences.{IsSubsequence}
 use Rattle.normal_steps.proofs.StepTestLaws.{within_true, true_within}
 use Rattle.cover_cert.specs.Covers.{Covers, is_covered_by, CoversIsTested, HasPebbles, live_part}
+use Rattle.cover_cert.specs.CoverLaws.{CoveringCostsNoMore}
 
 -- ---- the live vertices
 
@@ -77,6 +81,17 @@ covers_follows g p q c = record {
   red = λ v live h. let is = c.red v live h in grind (arith, membership);
   blue = λ v live h. let is = c.blue v live h in grind (arith, membership);
 }
+
+pub covering_costs_no_more : PlaysCostNoMore → PlaysArePebblings → CoveringCostsNoMore
+covering_costs_no_more follow played g dag p q covers fits ss finishing =
+    let moves = played g dag q fits ss finishing in
+    let answer = follow g dag q p (covers_follows g p q covers) (play_moves g q ss) moves.complete in
+    record {
+      steps = answer.steps;
+      finishing = answer.finishing;
+      costs = let costs = answer.costs in let same = moves.costs in omega arith;
+      works = subst (IsSubsequence (work_vertices answer.steps)) moves.computes answer.works;
+    }
 
 -- each sound position covers the start
 pub covers_start : (g : PebbleGame) (p : Position) → IsSound g p → Covers g p (start g)

@@ -11,8 +11,8 @@ use Rattle.forced_bounds.specs.Lists.{IsIn}
 use Rattle.potential_cert.specs.declared.tables.Row.{Row}
 use Rattle.search_laws.proofs.Lists.{in_right}
 use Rattle.search_laws.proofs.Tests.{legal_steps_legal}
-use Rattle.search_packing.specs.Turning.{IsExpanding}
-use Rattle.search_packing.proofs.Turning.{still_expanding}
+use Rattle.search_laws.specs.Turning.{IsExpanding}
+use Rattle.search_laws.proofs.Turning.{still_expanding}
 use Rattle.branch_bound.specs.declared.frontier.Best.{Best}
 use Rattle.branch_bound.specs.declared.frontier.Frontier.{Frontier}
 use Rattle.branch_bound.specs.Frontiers.{HasTried, IsFrontier, best_of, store_of}

@@ -9,9 +9,9 @@ use Rattle.normal_steps.specs.declared.step.Step.{Step}
 use Rattle.forced_bounds.specs.Lists.{IsIn}
 use Rattle.potential_cert.specs.declared.tables.Row.{Row}
 use Rattle.search_laws.specs.Search.{Mark, is_expanded, Entry, Search, if_next, rows_of, step_tried}
-use Rattle.search_packing.specs.Packing.{Store, Best, Packs, entry_at, entry_of}
-use Rattle.search_packing.specs.Turning.{AreTried}
-use Rattle.search_packing.proofs.Bounds.{row_places}
+use Rattle.search_laws.specs.Packing.{Store, Best, Packs, entry_at, entry_of}
+use Rattle.search_laws.specs.Turning.{AreTried}
+use Rattle.search_laws.proofs.Bounds.{row_places}
 use Rattle.cover_cert.specs.CoverMaking.{NamesFirst}
 use Rattle.cover_cert.specs.CoverSearch.{CoverSearch, Naming, all_named_or_tried, named_or_tried, row_named}
 use Rattle.cover_cert.specs.CoverTurns.{AreMade, AreNamedOrTried, row_at}

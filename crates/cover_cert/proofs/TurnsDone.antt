@@ -19,10 +19,10 @@ use Rattle.search_laws.proofs.Lists.{append_cases, in_left, in_right, map_in, in
 use Rattle.search_laws.proofs.Results.{begun_rows}
 use Rattle.search_laws.proofs.Tests.{same_position_true, true_same_position}
 use Rattle.search_laws.proofs.Turns.{no_row_here, played_sound, rows_after, rows_before, search_ends as plain_ends}
-use Rattle.search_packing.specs.Packing.{Store, Best, Packs, entry_at}
-use Rattle.search_packing.specs.Turning.{FindsNext, HasNext, HasStopped, IsExpanding, IsUnderWay, Stops, next_entry}
-use Rattle.search_packing.proofs.Bounds.{row_places}
-use Rattle.search_packing.proofs.Choosing.{is_expanding}
+use Rattle.search_laws.specs.Packing.{Store, Best, Packs, entry_at}
+use Rattle.search_laws.specs.Turning.{FindsNext, HasNext, HasStopped, IsExpanding, IsUnderWay, Stops, next_entry}
+use Rattle.search_laws.proofs.Bounds.{row_places}
+use Rattle.search_laws.proofs.Choosing.{is_expanding}
 use Rattle.branch_bound.specs.Frontiers.{StandApart}
 use Rattle.branch_bound.proofs.RowLaws.{apart_push}
 use Rattle.cover_cert.specs.declared.making.Made.{Made}

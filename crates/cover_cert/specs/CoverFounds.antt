@@ -7,6 +7,7 @@ use Rattle.normal_steps.specs.declared.step.Step.{Step}
 use Rattle.branch_bound.specs.declared.searching.Verdict.TheVariants.{Optimal, Open}
 use Rattle.cover_cert.specs.declared.searching.CoverFound.{CoverFound}
 use Rattle.cover_cert.specs.CoverAnswer.{AreCoverRows}
+use Rattle.cover_cert.specs.CoverBytes.{IsCoverInRange}
 use Rattle.cover_cert.specs.CoverSearch.{cover_searched}
 use Rattle.cover_cert.specs.CoverTable.{CoverTableParts, IsCoverSupport, IsCoverTableOf}
 
@@ -19,14 +20,15 @@ pub record IsCoverSearchedTable (g : PebbleGame) (first : List Step) (budget cos
   pub support : IsCoverSupport g table.rows cost table.bound
   pub fills : table.bound < cost → length table.rows ≡ budget
 
--- the plan and the table are those of the search from the first plan, and the verdict says whether the bound is the plan's cost; it is, where
--- the budget is at least the number of positions whose blue vertices hold the inputs
+-- the plan and the table are those of the search from the first plan, the table can be written, and the verdict says whether the bound is the
+-- plan's cost; it is, where the budget is at least the number of positions whose blue vertices hold the inputs
 pub record IsCoverFound (first : PlanParts) (budget : ℕ) (found : CoverFound) : Type 0 where
   pub game : found.plan.game ≡ first.game
   pub steps : found.plan.steps ≡ (cover_searched (game_of first.game) first.steps budget).search.plan
   pub first_cost : found.first_cost ≡ first.total
   pub no_more : found.plan.total ≤ first.total
   pub table : IsCoverSearchedTable (game_of first.game) first.steps budget found.plan.total found.table
+  pub in_range : IsCoverInRange found.table
   pub is_optimal : (found.verdict ≡ Optimal) ↔ (found.table.bound ≡ found.plan.total)
   pub is_open : (found.verdict ≡ Open) ↔ ((length found.table.rows ≡ budget) × (found.table.bound < found.plan.total))
   pub enough : 2 ^ (2 * (game_of first.game).dag.count - size (game_of first.game).dag.inputs) ≤ budget → found.verdict ≡ Optimal

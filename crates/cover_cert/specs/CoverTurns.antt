@@ -9,8 +9,8 @@ use Rattle.normal_steps.specs.declared.step.Step.{Step}
 use Rattle.forced_bounds.specs.Lists.{IsIn}
 use Rattle.potential_cert.specs.declared.tables.Row.{Row}
 use Rattle.search_laws.specs.Search.{is_expanded, Search}
-use Rattle.search_packing.specs.Packing as packing
-use Rattle.search_packing.specs.Turning.{IsExpanding}
+use Rattle.search_laws.specs.Packing as packing
+use Rattle.search_laws.specs.Turning.{IsExpanding}
 use Rattle.branch_bound.specs.declared.frontier.Best.{Best}
 use Rattle.branch_bound.specs.declared.frontier.Frontier.{Frontier}
 use Rattle.branch_bound.specs.Frontiers.{IsFrontier, StandApart, best_of, place_at, store_of}

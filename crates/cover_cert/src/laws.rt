@@ -1,6 +1,6 @@
 //! Laws of covered tables and of the search that makes them. A call does nothing: its contract is the law.
 ghost use Rattle.cover_cert.specs.Covers.{CoversIsTested};
-ghost use Rattle.cover_cert.specs.CoverLaws.{CoverBoundIsBelowPlays, CoverBoundIsBelowPebblings, CoverSupportIsOne, PlainTablesAreCoverTables};
+ghost use Rattle.cover_cert.specs.CoverLaws.{CoveringCostsNoMore, CoverBoundIsBelowPlays, CoverBoundIsBelowPebblings, CoverSupportIsOne, PlainTablesAreCoverTables};
 ghost use Rattle.cover_cert.specs.CoverSupport.{CoverSupportIsFound};
 ghost use Rattle.cover_cert.specs.CoverSearchLaws.{CoverPlanIsNoWorse, CoverRowsAreReached, CoverSearchedIsValid, CoverFewRowsAreOptimal, CoverOpenFillsBudget, CoverEnoughBudgetIsOptimal, CoverSearchGoesByTurns};
 ghost use Rattle.cover_cert.specs.Refusals.{RefusedIsNoCoverTable, CoverRefusalIsOne, CoverTableOrRefusal};
@@ -11,6 +11,15 @@ ghost use Rattle.cover_cert.specs.CoverAnswer.{CoverAnswersAreProved};
 pub fn covers_is_tested()
     ensures { CoversIsTested }
 {}
+
+/// A covering position can do what the covered one can: each play that finishes from the covered one, where that has no more red vertices than
+/// slots, has one that finishes from the covering one at no greater cost. It holds for any weights.
+pub fn covering_costs_no_more()
+    ensures { CoveringCostsNoMore }
+{
+    normal_steps::laws::plays_cost_no_more();
+    normal_steps::laws::plays_are_pebblings();
+}
 
 /// The bound of a covered table is at most the cost of each complete pebbling; and from each row no play finishes at less than what is left
 /// of the bound. It holds for any weights.

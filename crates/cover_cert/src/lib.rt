@@ -14,14 +14,12 @@ mod row_tests;
 pub mod searching;
 mod supporting;
 pub mod tables;
-#[cfg(test)]
-mod tests;
 pub mod writing;
 
 pub use checking::check_cover;
 pub use covering::covers;
 pub use end::CoverEnd;
 pub use reading::read_cover;
-pub use searching::{CoverFound, cover_search};
+pub use searching::{CoverFound, cover_search, cover_search_counted};
 pub use tables::{Cover, CoverRow, CoverTable};
 pub use writing::write_cover;

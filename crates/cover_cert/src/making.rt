@@ -3,7 +3,7 @@ ghost use Rattle.std.specs.Prelude.{◌≡◌, ◌+◌, ◌*◌, ◌<◌, ◌≤
 ghost use Rattle.comp_graph.specs.Games.{IsGame, game_of};
 ghost use Rattle.normal_steps.specs.Sound.{IsSound};
 ghost use Rattle.normal_steps.specs.Steps.{IsStep};
-ghost use Rattle.search_packing.specs.Turning.{IsExpanding};
+ghost use Rattle.search_laws.specs.Turning.{IsExpanding};
 ghost use Rattle.branch_bound.specs.Frontiers.{IsFrontier, place_at, store_of};
 ghost use Rattle.cover_cert.specs.CoverMaking.{FitsFirst, IsFit, IsSooner, NamesFirst, made_rows};
 ghost use Rattle.cover_cert.specs.CoverTurns.{AreMade, HasMade, row_at};
@@ -17,6 +17,7 @@ use pebble_rules::Position;
 use potential_cert::Row;
 use std::alloc::Global;
 use std::cmp::Ordering;
+use std::sync::ledger::Ledger;
 
 /// A name: the step at this place of the legal steps of a row, counted from 0, leads to a position that the row at `by` covers.
 #[derive(Clone, Copy)]
@@ -94,14 +95,15 @@ fn row_named(game: &Game, made: &[Made], row: &Row, step: Step) -> Option<Positi
     first_fit(made, row, &wanted, most)
 }
 
-// Makes the row at the place `k`: each legal step from it gets a name, or is tried.
-pub(crate) fn make(
+// Makes the row at the place `k`: each legal step from it gets a name, or is tried. That is one tick of `steps`, which only this call makes.
+pub(crate) fn make<L: Ledger>(
     alloc: Global,
     game: &Game,
     frontier: &mut Frontier,
     best: &mut Best,
     made: &[Made],
     k: u32,
+    steps: &mut step_count::Steps<L>,
 ) -> Result<Made, NoMemory>
     requires game { IsGame game.now }
     requires frontier { IsFrontier frontier.old }
@@ -111,8 +113,10 @@ pub(crate) fn make(
     requires sound { IsSound (game_of game.now) (place_at frontier.old k).position }
     requires room { length frontier.old.rows.slots < 4000000000 }
     requires made { AreMade (store_of frontier.old) (row_at (store_of frontier.old) k ∷ made_rows made.now) }
-    ensures { IfOk result (HasMade (game_of game.now) k frontier.old frontier.new best.old best.new) }
+    ensures made { IfOk result (HasMade (game_of game.now) k frontier.old frontier.new best.old best.new) }
+    ensures steps { steps.new ≡ steps.old + 1 }
 {
+    steps.tick();
     let position = frontier.rows.position(k);
     let row = Row {
         position,

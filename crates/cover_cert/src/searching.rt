@@ -1,5 +1,5 @@
 //! The search that names covering rows: turns until the budget is spent or no place waits, and the answer that is made of what they leave.
-ghost use Rattle.std.specs.Prelude.{◌≡◌, ◌≤◌, ◌≢◌, length, IfOk};
+ghost use Rattle.std.specs.Prelude.{◌≡◌, ◌+◌, ◌<◌, ◌≤◌, ◌≢◌, length, IfOk};
 ghost use Rattle.comp_graph.specs.Games.{IsGame, game_of};
 ghost use Rattle.pebble_rules.specs.Rules.{start};
 ghost use Rattle.normal_steps.specs.Steps.{IsFinishing, total_cost};
@@ -18,6 +18,9 @@ use branch_bound::searching::{begin, best_plan, verdict_on};
 use comp_graph::{Game, NoMemory};
 use normal_steps::{Plan, Step};
 use std::alloc::Global;
+use std::marker::Brand;
+use std::sync::ledger::{Blank, Ledger};
+use step_count::Steps;
 
 /// What the search answers. Costs are those of the game's weights, each with its finish.
 #[derive(Drop)]
@@ -40,13 +43,14 @@ pub struct CoverSearched {
     pub made: Vec<Made>,
 }
 
-// The search from a first plan, with at most so many rows.
-fn run(
+// The search from a first plan, with at most so many rows. A tick is a row that is made.
+fn run<L: Ledger>(
     alloc: Global,
     game: &Game,
     first: &[Step],
     first_cost: u32,
     budget: u32,
+    steps: &mut Steps<L>,
 ) -> Result<CoverSearched, NoMemory>
     requires game { IsGame game.now }
     requires finishing { IsFinishing (game_of game.now) (start (game_of game.now)) first.now }
@@ -54,6 +58,7 @@ fn run(
     requires budget { budget ≤ 8000 }
     ensures done { IfOk result (λ s. IsCoverDone (game_of game.now) first.now budget (store_of s.frontier) (best_of s.best) s.made.items) }
     ensures few { IfOk result (λ s. length s.made.items ≤ budget) }
+    ensures steps { steps.new ≤ steps.old + budget }
 {
     forced_bounds::laws::floor_at_ends();
     let mut best = Best {
@@ -71,7 +76,7 @@ fn run(
                 made,
             }),
             Some(k) => {
-                let row = make(alloc, game, &mut frontier, &mut best, &made, k)?;
+                let row = make(alloc, game, &mut frontier, &mut best, &made, k, steps)?;
                 made.push(row)?;
             }
         }
@@ -116,17 +121,22 @@ fn table_of(
 /// the first such row in the order of positions. Plan, rows and names are those of the definition (`cover_searched`), which fixes the order,
 /// so they are the same at each call. The steps of the plan that is handed in may be any; `first_plan` has one.
 ///
+/// A tick of `steps` is a position that is expanded: its legal steps get names or are tried, in one function that makes the row. There are at
+/// most `budget` of them, also where memory was wanted and not found.
+///
 /// # Errors
 ///
 /// `NoMemory` where memory was wanted and not found. The plan that was handed in is dropped then. How much memory and time a search takes
 /// no contract says; each step that can have a name is compared with each row.
-pub fn cover_search<'g>(
+pub fn cover_search_counted<'g, L: Ledger>(
     alloc: Global,
     first: Plan<'g>,
     budget: u32,
+    steps: &mut Steps<L>,
 ) -> Result<CoverFound<'g>, NoMemory>
     requires { budget ≤ 8000 }
-    ensures { IfOk result (IsCoverFound first.entry budget) }
+    ensures found { IfOk result (IsCoverFound first.entry budget) }
+    ensures steps { steps.new ≤ steps.old + budget }
 {
     forced_bounds::laws::floor_at_ends();
     let game = first.game();
@@ -136,7 +146,7 @@ pub fn cover_search<'g>(
         frontier,
         best,
         made,
-    } = run(alloc, game, first.steps(), first_cost, budget)?;
+    } = run(alloc, game, first.steps(), first_cost, budget, steps)?;
     let table = table_of(alloc, game, first.steps(), made, &frontier, &best, budget)?;
     let verdict = verdict_on(table.bound, best.cost);
     let plan = best_plan(alloc, first, &frontier, &best)?;
@@ -146,4 +156,37 @@ pub fn cover_search<'g>(
         table,
         verdict,
     })
+}
+
+// The search, with its steps in a ledger of its own.
+fn cover_search_uncounted<'g, L: Ledger>(
+    alloc: Global,
+    first: Plan<'g>,
+    budget: u32,
+    blank: Blank,
+) -> Result<CoverFound<'g>, NoMemory>
+    requires budget { budget ≤ 8000 }
+    requires name { blank.name ≡ L.name }
+    requires parts { blank.parts ≡ L.parts }
+    requires some { 0 < L.parts }
+    ensures { IfOk result (IsCoverFound first.entry budget) }
+{
+    let mut steps = Steps::<L>::new(blank);
+    cover_search_counted(alloc, first, budget, &mut steps)
+}
+
+/// The search of [`cover_search_counted`], where no one counts its steps.
+///
+/// # Errors
+///
+/// `NoMemory` where memory was wanted and not found, as there.
+pub fn cover_search<'g>(
+    alloc: Global,
+    first: Plan<'g>,
+    budget: u32,
+) -> Result<CoverFound<'g>, NoMemory>
+    requires { budget ≤ 8000 }
+    ensures { IfOk result (IsCoverFound first.entry budget) }
+{
+    cover_search_uncounted::<Brand>(alloc, first, budget, Blank::new(1))
 }

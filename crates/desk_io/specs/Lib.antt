@@ -2,3 +2,4 @@
 pub mod Counts
 pub mod Known
 pub mod Memory
+pub mod Whole

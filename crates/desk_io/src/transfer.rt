@@ -1,16 +1,20 @@
-//! A whole input or file is read, and a whole text is written, by calls that take or put any number of bytes.
+//! A whole input or file is read, and a whole text is written, by calls that take or put any number of bytes. The loops stand in `counted`.
 ghost use Rattle.std.specs.Prelude.{◌≡◌, ℕ, ◌<◌, ◌≤◌, ◌⊎◌, List, length, take, IfOk, OnOk, OnErr};
 ghost use Rattle.std.specs.Io.KnownBytes.{append_known, prepend_known};
 ghost use Rattle.desk_io.specs.declared.desk.Kind.{Kind};
 ghost use Rattle.desk_io.specs.Counts.{Rose};
 ghost use Rattle.desk_io.specs.Known.{file_of, Tells, TellsMore, TookAtMost, TookMore, TellsFile, TellsMoreFile, input_end};
+ghost use Rattle.desk_io.specs.Whole.{ReadsInput, ReadsFile, WritesOutput, WritesFile};
 
-use crate::desk::{Desk, Failed, Kind};
+use crate::counted::{
+    read_file_counted, read_input_counted, write_file_counted, write_output_counted,
+};
+use crate::desk::{Desk, Kind};
 use std::alloc::Global;
 use std::fmt;
-
-/// The most bytes that one take is asked for.
-const PIECE: usize = 4096;
+use std::marker::Brand;
+use std::sync::ledger::{Blank, Ledger};
+use step_count::Steps;
 
 /// Why an input or a file was not read to its end. The numbers are this project's convention.
 #[derive(Clone, Copy, Debug, PartialEq, Eq)]
@@ -53,7 +57,8 @@ impl std::error::Error for WriteFault {}
 /// `ReadFault` comes only where the desk's count of failed takes from the input rose in this call, or stands at its
 /// last value; then at most `limit` bytes were taken. `NoMemory` comes only for want of memory. After an error the
 /// bytes that were taken are lost, and the rest of the input is left. The file, the output and the other counts stay
-/// as they were. Each turn takes at least one byte or ends, so there are at most `limit + 2` turns.
+/// as they were. At most `limit + 1` calls of the desk are made, as [`read_input_counted`] says in `calls`; this is that
+/// call with steps that nothing reads.
 pub fn read_input<D: Desk>(alloc: Global, desk: &mut D, limit: u32) -> Result<Vec<u8>, ReadEnd>
     ensures whole { IfOk result (λ text. Tells (D.input desk.old) text.items) }
     ensures fits { IfOk result (λ text. length text.items ≤ limit) }
@@ -74,20 +79,23 @@ pub fn read_input<D: Desk>(alloc: Global, desk: &mut D, limit: u32) -> Result<Ve
     ensures same_file { D.file desk.new ≡ D.file desk.old }
     ensures same_output { D.output desk.new ≡ D.output desk.old }
 {
-    let mut text = Vec::new(alloc);
-    let mut buf = [0u8; PIECE];
-    while text.len() <= limit as usize {
-        match desk.take_input(&mut buf) {
-            Ok(0) => return Ok(text),
-            Ok(count) => {
-                if text.extend_from_slice(&buf[..count]).is_err() {
-                    return Err(ReadEnd::NoMemory);
-                }
-            }
-            Err(Failed) => return Err(ReadEnd::ReadFault),
-        }
-    }
-    Err(ReadEnd::TooLong)
+    read_input_uncounted::<D, Brand>(alloc, desk, limit, Blank::new(1))
+}
+
+// The same with steps that nothing reads.
+fn read_input_uncounted<D: Desk, L: Ledger>(
+    alloc: Global,
+    desk: &mut D,
+    limit: u32,
+    blank: Blank,
+) -> Result<Vec<u8>, ReadEnd>
+    requires name { blank.name ≡ L.name }
+    requires parts { blank.parts ≡ L.parts }
+    requires one { blank.parts ≡ 1 }
+    ensures { ReadsInput D.name D.input D.file D.output D.faults
+        desk.old desk.new limit result }
+{
+    read_input_counted(alloc, desk, limit, &mut Steps::<L>::new(blank))
 }
 
 /// The whole file, where it has at most `limit` bytes.
@@ -95,8 +103,9 @@ pub fn read_input<D: Desk>(alloc: Global, desk: &mut D, limit: u32) -> Result<Ve
 /// `TooLong` comes exactly where more than `limit` bytes stand there, and neither a take nor memory fails first.
 /// `ReadFault` comes only where the desk's count of failed takes from the file rose in this call, or stands at its
 /// last value; a missing file is a failed take. `NoMemory` comes only for want of memory. The input, the file, the
-/// output and the other counts stay as they were. Each turn takes at least one byte or ends, so there are at most
-/// `limit + 2` turns.
+/// output and the other counts stay as they were. At most `limit + 1` calls of the desk are made, and at `ReadFault` at
+/// most `limit` bytes were taken, as [`read_file_counted`] says in `calls` and `early`; this is that call with steps that
+/// nothing reads.
 pub fn read_file<D: Desk>(alloc: Global, desk: &mut D, limit: u32) -> Result<Vec<u8>, ReadEnd>
     ensures whole { IfOk result (λ text. TellsFile (D.file desk.old) text.items) }
     ensures fits { IfOk result (λ text. length text.items ≤ limit) }
@@ -114,27 +123,37 @@ pub fn read_file<D: Desk>(alloc: Global, desk: &mut D, limit: u32) -> Result<Vec
     ensures same_file { D.file desk.new ≡ D.file desk.old }
     ensures same_output { D.output desk.new ≡ D.output desk.old }
 {
-    let mut text = Vec::new(alloc);
-    let mut buf = [0u8; PIECE];
-    while text.len() <= limit as usize {
-        match desk.take_file(text.len() as u32, &mut buf) {
-            Ok(0) => return Ok(text),
-            Ok(count) => {
-                if text.extend_from_slice(&buf[..count]).is_err() {
-                    return Err(ReadEnd::NoMemory);
-                }
-            }
-            Err(Failed) => return Err(ReadEnd::ReadFault),
-        }
-    }
-    Err(ReadEnd::TooLong)
+    read_file_uncounted::<D, Brand, Brand>(alloc, desk, limit, Blank::new(1), Blank::new(1))
+}
+
+// The same with steps and bytes that nothing reads.
+fn read_file_uncounted<D: Desk, L: Ledger, B: Ledger>(
+    alloc: Global,
+    desk: &mut D,
+    limit: u32,
+    blank: Blank,
+    other: Blank,
+) -> Result<Vec<u8>, ReadEnd>
+    requires name { blank.name ≡ L.name }
+    requires parts { blank.parts ≡ L.parts }
+    requires one { blank.parts ≡ 1 }
+    requires other_name { other.name ≡ B.name }
+    requires other_parts { other.parts ≡ B.parts }
+    requires other_one { other.parts ≡ 1 }
+    ensures { ReadsFile D.name D.input D.file D.output D.faults
+        desk.old desk.new limit result }
+{
+    let mut steps = Steps::<L>::new(blank);
+    let mut bytes = Steps::<B>::new(other);
+    read_file_counted(alloc, desk, limit, &mut steps, &mut bytes)
 }
 
 /// Appends exactly `text` to the output.
 ///
 /// `WriteFault` comes only where the desk's count of failed puts to the output rose in this call, or stands at its
 /// last value; then a prefix of `text` was appended, and never the whole. The input, the file and the other counts
-/// stay as they were. Each turn puts at least one byte or ends, and no memory is taken.
+/// stay as they were. At most as many calls of the desk are made as `text` has bytes, as [`write_output_counted`] says in
+/// `calls`; this is that call with steps that nothing reads. No memory is taken.
 pub fn write_output<D: Desk>(desk: &mut D, text: &[u8]) -> Result<(), WriteFault>
     ensures ok { OnOk result (D.output desk.new ≡ append_known (D.output desk.old) text.now) }
     ensures prefix { OnErr result ((count : ℕ) × (count < length text.now)
@@ -148,14 +167,22 @@ pub fn write_output<D: Desk>(desk: &mut D, text: &[u8]) -> Result<(), WriteFault
     ensures same_input { D.input desk.new ≡ D.input desk.old }
     ensures same_file { D.file desk.new ≡ D.file desk.old }
 {
-    let mut done = 0;
-    while done < text.len() {
-        match desk.put_output(&text[done..]) {
-            Ok(count) => done += count,
-            Err(Failed) => return Err(WriteFault),
-        }
-    }
-    Ok(())
+    write_output_uncounted::<D, Brand>(desk, text, Blank::new(1))
+}
+
+// The same with steps that nothing reads.
+fn write_output_uncounted<D: Desk, L: Ledger>(
+    desk: &mut D,
+    text: &[u8],
+    blank: Blank,
+) -> Result<(), WriteFault>
+    requires name { blank.name ≡ L.name }
+    requires parts { blank.parts ≡ L.parts }
+    requires one { blank.parts ≡ 1 }
+    ensures { WritesOutput D.name D.input D.file D.output D.faults
+        desk.old desk.new text.now result }
+{
+    write_output_counted(desk, text, &mut Steps::<L>::new(blank))
 }
 
 /// Makes the file be there with exactly these bytes.
@@ -163,8 +190,9 @@ pub fn write_output<D: Desk>(desk: &mut D, text: &[u8]) -> Result<(), WriteFault
 /// `WriteFault` comes in two cases only. Where the clear failed, the count of failed clears rose, or stands at its last
 /// value; that of failed puts to the file and the file are as they were. Where a put failed, the count of failed puts
 /// rose, or stands at its last value; that of failed clears is as it was, and the file is there and holds a prefix of
-/// `bytes`, and never the whole. The input, the output and the other counts stay as they were. Each turn puts at
-/// least one byte or ends, and no memory is taken.
+/// `bytes`, and never the whole. The input, the output and the other counts stay as they were. At most one
+/// call of the desk more is made than there are bytes, as [`write_file_counted`] says in `calls`; this is that call with
+/// steps that nothing reads. No memory is taken.
 pub fn write_file<D: Desk>(desk: &mut D, bytes: &[u8]) -> Result<(), WriteFault>
     ensures ok { OnOk result (D.file desk.new ≡ file_of (D.file desk.old) bytes.now) }
     ensures fault { OnErr result (
@@ -182,15 +210,20 @@ pub fn write_file<D: Desk>(desk: &mut D, bytes: &[u8]) -> Result<(), WriteFault>
     ensures same_input { D.input desk.new ≡ D.input desk.old }
     ensures same_output { D.output desk.new ≡ D.output desk.old }
 {
-    if desk.clear_file().is_err() {
-        return Err(WriteFault);
-    }
-    let mut done = 0;
-    while done < bytes.len() {
-        match desk.put_file(&bytes[done..]) {
-            Ok(count) => done += count,
-            Err(Failed) => return Err(WriteFault),
-        }
-    }
-    Ok(())
+    write_file_uncounted::<D, Brand>(desk, bytes, Blank::new(1))
+}
+
+// The same with steps that nothing reads.
+fn write_file_uncounted<D: Desk, L: Ledger>(
+    desk: &mut D,
+    bytes: &[u8],
+    blank: Blank,
+) -> Result<(), WriteFault>
+    requires name { blank.name ≡ L.name }
+    requires parts { blank.parts ≡ L.parts }
+    requires one { blank.parts ≡ 1 }
+    ensures { WritesFile D.name D.input D.file D.output D.faults
+        desk.old desk.new bytes.now result }
+{
+    write_file_counted(desk, bytes, &mut Steps::<L>::new(blank))
 }

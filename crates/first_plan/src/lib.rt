@@ -3,8 +3,6 @@
 
 pub mod laws;
 pub mod planning;
-#[cfg(test)]
-mod tests;
 mod uses;
 mod victims;
 

@@ -20,15 +20,41 @@ pub record IsSwept (g : Dag) (p : Position) (n : ℕ) (found read : Vertices) : 
   pub read_by : (u : ℕ) → u ∈ read → (v : ℕ) × (v ∈ found) × (u ∈ g.preds v)
   pub reads : (v u : ℕ) → n ≤ v → v ∈ found → u ∈ g.preds v → u ∈ read
 
+-- ---- members of unions and differences
+
+in_union_first : (s t : Vertices) (u : ℕ) → u ∈ s → u ∈ union s t
+in_union_first s t u h = grind (arith, membership)
+
+in_union_second : (s t : Vertices) (u : ℕ) → u ∈ t → u ∈ union s t
+in_union_second s t u h = grind (arith, membership)
+
+in_difference : (s t : Vertices) (u : ℕ) → u ∈ s → u ∉ t → u ∈ difference s t
+in_difference s t u h out = grind (arith, membership)
+
 union_cases : (s t : Vertices) (u : ℕ) → u ∈ union s t → (u ∈ s) ⊎ (u ∈ t)
 union_cases s t u h = grind (arith, membership)
+
+-- a member of the first set, or of what the second has and the third has not
+added_cases : (s t p : Vertices) (u : ℕ) → u ∈ union s (difference t p) → (u ∈ s) ⊎ ((u ∈ t) × (u ∉ p))
+added_cases s t p u h = elim (union_cases s (difference t p) u h) [ inl here ↦ inl here | inr more ↦ inr (difference_first t p u more, difference_second t p u more) ]
+
+in_and_out : (s : Vertices) (u : ℕ) → u ∈ s → u ∉ s → ⊥
+in_and_out s u h out = grind arith
+
+not_in_empty : (s : Vertices) → s ≡ empty → (v : ℕ) → v ∈ s → ⊥
+not_in_empty s e v h = let none = subst (λ s. v ∈ s) e h in grind (arith, membership)
+
+or_left : (a b : Bool) → a ≡ true → (a || b) ≡ true
+or_left a b h = grind arith
+
+-- ---- the pass
 
 pub swept_start : (g : Dag) → IsDag g → (p : Position) (found read : Vertices) → found ≡ difference g.outputs (union p.red p.blue) → read ≡ empty → IsSwept g p g.count found read
 swept_start g dag p found read e f = record {
   least = λ t holds v h. holds.outputs v (out_of v (here v h)) (bare_of v (here v h));
-  starts = λ v out bare. subst (λ s. v ∈ s) (sym e) (grind (arith, membership));
+  starts = λ v out bare. subst (λ s. v ∈ s) (sym e) (in_difference g.outputs (union p.red p.blue) v out bare);
   closed = λ v u far h. absurd (too_far v far h);
-  read_by = λ u h. absurd (let none = subst (λ s. u ∈ s) f h in grind (arith, membership));
+  read_by = λ u h. absurd (not_in_empty read f u h);
   reads = λ v u far h. absurd (too_far v far h);
 }
   where
@@ -36,10 +62,10 @@ swept_start g dag p found read e f = record {
     here v h = subst (λ s. v ∈ s) e h
 
     out_of : (v : ℕ) → v ∈ difference g.outputs (union p.red p.blue) → v ∈ g.outputs
-    out_of v h = grind (arith, membership)
+    out_of v h = difference_first g.outputs (union p.red p.blue) v h
 
     bare_of : (v : ℕ) → v ∈ difference g.outputs (union p.red p.blue) → v ∉ union p.red p.blue
-    bare_of v h = grind (arith, membership)
+    bare_of v h = difference_second g.outputs (union p.red p.blue) v h
 
     too_far : (v : ℕ) → g.count ≤ v → v ∈ found → ⊥
     too_far v far h = let below = dag.outputs_are_vertices v (out_of v (here v h)) in omega arith
@@ -62,19 +88,19 @@ swept_in g dag p n found read swept h = record {
     | inr pred ↦ (n, left n h, pred)
   ];
   reads = λ v u far i pred. elim (equal_or_more n v far) [
-    | inl e ↦ let here = subst (λ v. u ∈ g.preds v) (sym e) pred in grind (arith, membership)
-    | inr more ↦ let before = swept.reads v u more (old v more (cases v i)) pred in grind (arith, membership)
+    | inl e ↦ let here = subst (λ v. u ∈ g.preds v) (sym e) pred in in_union_second read (g.preds n) u here
+    | inr more ↦ let before = swept.reads v u more (old v more (cases v i)) pred in in_union_first read (g.preds n) u before
   ];
 }
   where
     left : (v : ℕ) → v ∈ found → v ∈ union found (difference (g.preds n) (union p.red p.blue))
-    left v i = grind (arith, membership)
+    left v i = in_union_first found (difference (g.preds n) (union p.red p.blue)) v i
 
     right : (u : ℕ) → u ∈ g.preds n → u ∉ union p.red p.blue → u ∈ union found (difference (g.preds n) (union p.red p.blue))
-    right u pred bare = grind (arith, membership)
+    right u pred bare = in_union_second found (difference (g.preds n) (union p.red p.blue)) u (in_difference (g.preds n) (union p.red p.blue) u pred bare)
 
     cases : (v : ℕ) → v ∈ union found (difference (g.preds n) (union p.red p.blue)) → (v ∈ found) ⊎ ((v ∈ g.preds n) × (v ∉ union p.red p.blue))
-    cases v i = grind (arith, membership)
+    cases v i = added_cases found (g.preds n) (union p.red p.blue) v i
 
     by_least : (t : Vertices) → HoldsNeeded g p t → (v : ℕ) → (v ∈ found) ⊎ ((v ∈ g.preds n) × (v ∉ union p.red p.blue)) → v ∈ t
     by_least t holds v (inl i) = swept.least t holds v i
@@ -85,7 +111,7 @@ swept_in g dag p n found read swept h = record {
     old v more (inr pred) = absurd (let less = dag.preds_below n v pred.0 in omega arith)
 
     read_cases : (u : ℕ) → u ∈ union read (g.preds n) → (u ∈ read) ⊎ (u ∈ g.preds n)
-    read_cases u i = grind (arith, membership)
+    read_cases u i = union_cases read (g.preds n) u i
 
 -- vertex n is not needed
 pub swept_out : (g : Dag) (p : Position) (n : ℕ) (found read : Vertices) → IsSwept g p (suc n) found read → n ∉ found → IsSwept g p n found read
@@ -104,7 +130,7 @@ swept_out g p n found read swept out = record {
 }
   where
     not_here : (v : ℕ) → n ≡ v → v ∈ found → ⊥
-    not_here v e h = let here = subst (λ v. v ∈ found) (sym e) h in grind arith
+    not_here v e h = in_and_out found n (subst (λ v. v ∈ found) (sym e) h) out
 
 pub swept_at : (g : Dag) (p : Position) (n m : ℕ) → n ≡ m → (s t : Vertices) → s ≡ t → (a b : Vertices) → a ≡ b → IsSwept g p n s a → IsSwept g p m t b
 swept_at g p n m e s t f a b h swept = subst (λ m. IsSwept g p m t b) e (subst (λ t. IsSwept g p n t b) f (subst (λ b. IsSwept g p n s b) h swept))
@@ -134,20 +160,14 @@ swept_end g dag p found read swept =
     is_found : (v : ℕ) → v ∈ needed g p → v ∈ found
     is_found v h = all_needed g dag p found read swept v ∙ h
 
-    or_left : (a b : Bool) → a ≡ true → (a || b) ≡ true
-    or_left a b h = grind arith
-
-    split : (u : ℕ) → u ∈ union found (difference read p.red) → (u ∈ found) ⊎ (u ∈ difference read p.red)
-    split u h = union_cases found (difference read p.red) u h
-
     cases : (u : ℕ) → u ∈ union found (difference read p.red) → (u ∈ found) ⊎ ((u ∈ read) × (u ∉ p.red))
-    cases u h = elim (split u h) [ inl here ↦ inl here | inr pred ↦ inr (difference_first read p.red u pred, difference_second read p.red u pred) ]
+    cases u h = added_cases found read p.red u h
 
     left : (u : ℕ) → u ∈ found → u ∈ union found (difference read p.red)
-    left u h = grind (arith, membership)
+    left u h = in_union_first found (difference read p.red) u h
 
     right : (u : ℕ) → u ∈ read → u ∉ p.red → u ∈ union found (difference read p.red)
-    right u h out = grind (arith, membership)
+    right u h out = in_union_second found (difference read p.red) u (in_difference read p.red u h out)
 
     to_wanted : (u : ℕ) → u ∈ union found (difference read p.red) → u ∈ wanted g p
     to_wanted u h = elim (cases u h) [
@@ -193,7 +213,7 @@ high_in g dag p n top more found high above here v far h = elim (equal_or_more n
 
 pub high_out : (n top : ℕ) (found : Vertices) → IsHigh (suc n) found top → n ∉ found → IsHigh n found top
 high_out n top found high out v far h = elim (equal_or_more n v far) [
-  | inl e ↦ absurd (let here = subst (λ v. v ∈ found) (sym e) h in grind arith)
+  | inl e ↦ absurd (in_and_out found n (subst (λ v. v ∈ found) (sym e) h) out)
   | inr beyond ↦ high v beyond h
 ]
 
@@ -218,9 +238,6 @@ pub none_by_least : (o : Option ℕ) (r : Bool) (s : Vertices) → MatchOption o
 none_by_least None r s match is h = match
 none_by_least (Some v) r s match is h = absurd (grind arith)
 
-not_in_empty : (s : Vertices) → s ≡ empty → (v : ℕ) → v ∈ s → ⊥
-not_in_empty s e v h = let none = subst (λ s. v ∈ s) e h in grind (arith, membership)
-
 pub none_below : (s : Vertices) (top : ℕ) → s ≡ empty → AllBelow top s
 none_below s top e = record { below = λ v h. absurd (not_in_empty s e v h) }
 
@@ -235,7 +252,7 @@ none_wanted g dag p found e none =
     })
   where
     left : (v : ℕ) → v ∈ found → v ∈ union found (difference empty p.red)
-    left v h = grind (arith, membership)
+    left v h = in_union_first found (difference empty p.red) v h
 
     back : (v : ℕ) → v ∈ union found (difference empty p.red) → v ∈ found
     back v h = elim (union_cases found (difference empty p.red) v h) [ inl here ↦ here | inr none ↦ absurd (not_in_empty empty refl v (difference_first empty p.red v none)) ]

@@ -6,7 +6,5 @@ pub mod evaluating;
 pub mod laws;
 mod operands;
 mod spread;
-#[cfg(test)]
-mod tests;
 
 pub use evaluating::{floor, floor_below};

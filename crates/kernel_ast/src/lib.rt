@@ -10,8 +10,6 @@ pub mod element;
 pub mod kernel;
 pub mod name;
 pub mod rule;
-#[cfg(test)]
-mod tests;
 pub mod tree;
 pub mod weigh;
 

@@ -10,22 +10,22 @@ use Rattle.kernel_ast.specs.KernelParts.{Declared, KernelParts}
 use Rattle.kernel_lexer.specs.declared.token.Token.{Token}
 use Rattle.kernel_lexer.specs.Spelling.{Text}
 use Rattle.kernel_parser.specs.declared.names.scope.Meaning.TheVariants.{Element}
-use Rattle.kernel_parser.specs.declared.raw.RawExpr.{RawExpr, fold-RawExpr}
-use Rattle.kernel_parser.specs.declared.raw.RawExpr.TheOpen as open_raw
-use Rattle.kernel_parser.specs.declared.raw.RawExpr.TheOpen.{RawExpr-F, RawLink-F}
-use Rattle.kernel_parser.specs.declared.raw.RawExpr.TheVariants as raw
-use Rattle.kernel_parser.specs.declared.raw.RawExpr.TheFolds.{fold-RawLink, fold-roll-RawExpr, fold-roll-RawLink}
-use Rattle.kernel_parser.specs.declared.raw.RawPlace.{RawPlace}
-use Rattle.kernel_parser.specs.declared.raw.RawStmt.{RawStmt}
-use Rattle.kernel_parser.specs.declared.raw.RawStmt.TheOpen.{Assign}
-use Rattle.kernel_parser.specs.declared.raw.RawStmt.TheVariants as raw_stmt
-use Rattle.kernel_parser.specs.declared.raw.RawStmt.TheFolds.{fold-roll-RawStmt}
+use Rattle.kernel_syntax.specs.declared.raw.RawExpr.{RawExpr, fold-RawExpr}
+use Rattle.kernel_syntax.specs.declared.raw.RawExpr.TheOpen as open_raw
+use Rattle.kernel_syntax.specs.declared.raw.RawExpr.TheOpen.{RawExpr-F, RawLink-F}
+use Rattle.kernel_syntax.specs.declared.raw.RawExpr.TheVariants as raw
+use Rattle.kernel_syntax.specs.declared.raw.RawExpr.TheFolds.{fold-RawLink, fold-roll-RawExpr, fold-roll-RawLink}
+use Rattle.kernel_syntax.specs.declared.raw.RawPlace.{RawPlace}
+use Rattle.kernel_syntax.specs.declared.raw.RawStmt.{RawStmt}
+use Rattle.kernel_syntax.specs.declared.raw.RawStmt.TheOpen.{Assign}
+use Rattle.kernel_syntax.specs.declared.raw.RawStmt.TheVariants as raw_stmt
+use Rattle.kernel_syntax.specs.declared.raw.RawStmt.TheFolds.{fold-roll-RawStmt}
 use Rattle.kernel_parser.specs.NameFaults.{NameFault}
 use Rattle.kernel_parser.specs.Names as names
 use Rattle.kernel_parser.specs.Names.{Known, declared, meaning, meaning_by, declared_at, name_faults, place_faults, word}
 use Rattle.kernel_parser.specs.Resolved as tree
-use Rattle.kernel_parser.specs.Tokens.{op_of}
-use Rattle.kernel_parser.specs.Trees as trees
+use Rattle.kernel_syntax.specs.Tokens.{op_of}
+use Rattle.kernel_syntax.specs.Trees as trees
 use Rattle.kernel_gen.specs.Trials.{left_operand, trial_kernel}
 use Rattle.kernel_gen.specs.Laws.{IsTrial, TrialsAreAccepted}
 use Rattle.kernel_gen.proofs.Pieces.{AreSpelled, behind, spelled-append, token, tokens}

@@ -10,18 +10,18 @@ use Rattle.kernel_ast.specs.Places.{cell}
 use Rattle.kernel_lexer.specs.declared.token.Token.{Token}
 use Rattle.kernel_lexer.specs.Spelling.{Text}
 use Rattle.kernel_parser.specs.declared.names.scope.Meaning.TheVariants.{Element}
-use Rattle.kernel_parser.specs.declared.raw.Span.{Span}
-use Rattle.kernel_parser.specs.declared.raw.RawIndexTree.TheOpen as open_raw
-use Rattle.kernel_parser.specs.declared.raw.RawIndexTree.TheVariants as raw
-use Rattle.kernel_parser.specs.declared.raw.RawIndexTree.TheFolds.{fold-roll-RawIndexTree}
-use Rattle.kernel_parser.specs.declared.raw.RawPlace.{RawPlace}
+use Rattle.kernel_syntax.specs.declared.raw.Span.{Span}
+use Rattle.kernel_syntax.specs.declared.raw.RawIndexTree.TheOpen as open_raw
+use Rattle.kernel_syntax.specs.declared.raw.RawIndexTree.TheVariants as raw
+use Rattle.kernel_syntax.specs.declared.raw.RawIndexTree.TheFolds.{fold-roll-RawIndexTree}
+use Rattle.kernel_syntax.specs.declared.raw.RawPlace.{RawPlace}
 use Rattle.kernel_parser.specs.NameFaults.{NameFault}
 use Rattle.kernel_parser.specs.Names as names
 use Rattle.kernel_parser.specs.Names.{Known, known_in, meaning, meaning_by, open_at, declared_at, word, place_faults, target_place_faults}
 use Rattle.kernel_parser.specs.Resolved as tree
 use Rattle.kernel_parser.specs.Resolved.{index_of, place_of, target_of}
-use Rattle.kernel_parser.specs.Tokens.{number_of}
-use Rattle.kernel_parser.specs.Trees.{index_number}
+use Rattle.kernel_syntax.specs.Tokens.{number_of}
+use Rattle.kernel_syntax.specs.Trees.{index_number}
 use Rattle.kernel_lexer.specs.declared.token.TokenKind.TheVariants.{Name}
 use Rattle.kernel_gen.proofs.Pieces.{AreSpelled, behind, token}
 use Rattle.kernel_gen.proofs.Decimals.{number}

@@ -7,21 +7,21 @@ use Rattle.kernel_lexer.specs.declared.token.TokenKind.{TokenKind}
 use Rattle.kernel_lexer.specs.declared.token.TokenKind.TheVariants as k
 use Rattle.kernel_lexer.specs.Spelling.{Text}
 use Rattle.kernel_ast.specs.declared.tree.DeclKind.TheVariants as role
-use Rattle.kernel_parser.specs.declared.raw.RawIndex.{RawIndex}
-use Rattle.kernel_parser.specs.declared.raw.RawPlace.{RawPlace}
-use Rattle.kernel_parser.specs.declared.raw.RawExpr.{RawExpr}
-use Rattle.kernel_parser.specs.declared.raw.RawExpr.TheVariants as expr
-use Rattle.kernel_parser.specs.declared.raw.RawStmt.{RawStmt}
-use Rattle.kernel_parser.specs.declared.raw.RawStmt.TheVariants as stmt
-use Rattle.kernel_parser.specs.declared.raw.RawDecl.{RawDecl}
-use Rattle.kernel_parser.specs.declared.raw.RawKernel.{RawKernel}
-use Rattle.kernel_parser.specs.Tokens.{is_name, is_number, is_operator, is_role, sign}
-use Rattle.kernel_parser.specs.Trees as tree
-use Rattle.kernel_parser.specs.Grammar.{Bracket, Declared, Expr, Index, IndexLeaf, Leaf, Place, Ranked, Size, Statement, Whole}
-use Rattle.kernel_parser.specs.Parsing.{whole}
-use Rattle.kernel_parser.proofs.KernelSteps.{whole_step}
-use Rattle.word_grammar.specs.Phrases.{Phrase, Many}
-use Rattle.word_grammar.proofs.Texts.{more_levels}
+use Rattle.kernel_syntax.specs.declared.raw.RawIndex.{RawIndex}
+use Rattle.kernel_syntax.specs.declared.raw.RawPlace.{RawPlace}
+use Rattle.kernel_syntax.specs.declared.raw.RawExpr.{RawExpr}
+use Rattle.kernel_syntax.specs.declared.raw.RawExpr.TheVariants as expr
+use Rattle.kernel_syntax.specs.declared.raw.RawStmt.{RawStmt}
+use Rattle.kernel_syntax.specs.declared.raw.RawStmt.TheVariants as stmt
+use Rattle.kernel_syntax.specs.declared.raw.RawDecl.{RawDecl}
+use Rattle.kernel_syntax.specs.declared.raw.RawKernel.{RawKernel}
+use Rattle.kernel_syntax.specs.Tokens.{is_name, is_number, is_operator, is_role, sign}
+use Rattle.kernel_syntax.specs.Trees as tree
+use Rattle.kernel_syntax.specs.Grammar.{Bracket, Declared, Expr, Index, IndexLeaf, Leaf, Place, Ranked, Size, Statement, Whole}
+use Rattle.kernel_syntax.specs.Parsing.{whole}
+use Rattle.kernel_syntax.proofs.KernelSteps.{whole_step}
+use Rattle.token_grammar.specs.Phrases.{Phrase, Many}
+use Rattle.token_grammar.proofs.Texts.{more_levels}
 use Rattle.kernel_gen.specs.Trials.{left_operand}
 use Rattle.kernel_gen.proofs.Pieces.{Piece, behind, token, tokens, tokens-append}
 use Rattle.kernel_gen.proofs.Decimals.{number}

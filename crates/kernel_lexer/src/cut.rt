@@ -10,7 +10,7 @@ use crate::scan::{byte_len, digits_len, is_digit, starts, word_len};
 use crate::token::{Keyword, Mark, TokenKind};
 
 /// Why no token is cut.
-#[derive(Clone, Copy, Debug)]
+#[derive(Clone, Copy)]
 pub enum TokenRule {
     /// No token begins here.
     BadByte,
@@ -34,7 +34,7 @@ impl TokenRule {
 }
 
 /// What stands at the front.
-#[derive(Clone, Copy, Debug)]
+#[derive(Clone, Copy)]
 pub enum Cut {
     /// A token of so many characters.
     Token(TokenKind, usize),

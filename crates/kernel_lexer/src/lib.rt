@@ -23,8 +23,6 @@ pub mod laws;
 pub mod lex_end;
 pub mod lexer;
 mod scan;
-#[cfg(test)]
-mod tests;
 pub mod token;
 
 pub use lex_end::LexEnd;

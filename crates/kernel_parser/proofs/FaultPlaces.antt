@@ -4,10 +4,10 @@ use Rattle.kernel_ast.specs.Walk.{joined}
 use Rattle.kernel_lexer.specs.declared.token.Token.{Token}
 use Rattle.kernel_parser.specs.NameFaults.{NameFault}
 use Rattle.kernel_parser.specs.NameOrder.{StandsBeforeAll, AreInOrder}
-use Rattle.kernel_parser.specs.Tokens.{is_operator}
-use Rattle.kernel_parser.specs.Trees as tree
-use Rattle.kernel_parser.specs.Grammar.{Linked, Ranked, Brackets}
-use Rattle.word_grammar.specs.Phrases.{Phrase, One, Both, Either, Made, Many, Maybe}
+use Rattle.kernel_syntax.specs.Tokens.{is_operator}
+use Rattle.kernel_syntax.specs.Trees as tree
+use Rattle.kernel_syntax.specs.Grammar.{Linked, Ranked, Brackets}
+use Rattle.token_grammar.specs.Phrases.{Phrase, One, Both, Either, Made, Many, Maybe}
 
 -- ---- faults
 

@@ -13,13 +13,13 @@ use Rattle.kernel_ast.specs.declared.tree.Expr.TheFolds.{fold-Link, fold-roll-Ex
 use Rattle.kernel_ast.specs.declared.tree.Link.{Link}
 use Rattle.kernel_ast.specs.WellFormed as good
 use Rattle.kernel_ast.specs.Weights as weights
-use Rattle.kernel_parser.specs.declared.raw.RawIndex.{RawIndex}
-use Rattle.kernel_parser.specs.declared.raw.RawPlace.{RawPlace}
-use Rattle.kernel_parser.specs.declared.raw.RawExpr.{RawExpr, roll-RawExpr}
-use Rattle.kernel_parser.specs.declared.raw.RawExpr.TheOpen.{RawExpr-F, RawLink-F, Number, Minus, Chain, Call}
-use Rattle.kernel_parser.specs.declared.raw.RawExpr.TheOpen as open_raw
-use Rattle.kernel_parser.specs.declared.raw.RawExpr.TheFolds.{fold-RawLink, fold-roll-RawExpr, fold-roll-RawLink, ind-RawExpr, map-RawExpr, map-RawLink}
-use Rattle.kernel_parser.specs.declared.raw.RawLink.{RawLink, roll-RawLink}
+use Rattle.kernel_syntax.specs.declared.raw.RawIndex.{RawIndex}
+use Rattle.kernel_syntax.specs.declared.raw.RawPlace.{RawPlace}
+use Rattle.kernel_syntax.specs.declared.raw.RawExpr.{RawExpr, roll-RawExpr}
+use Rattle.kernel_syntax.specs.declared.raw.RawExpr.TheOpen.{RawExpr-F, RawLink-F, Number, Minus, Chain, Call}
+use Rattle.kernel_syntax.specs.declared.raw.RawExpr.TheOpen as open_raw
+use Rattle.kernel_syntax.specs.declared.raw.RawExpr.TheFolds.{fold-RawLink, fold-roll-RawExpr, fold-roll-RawLink, ind-RawExpr, map-RawExpr, map-RawLink}
+use Rattle.kernel_syntax.specs.declared.raw.RawLink.{RawLink, roll-RawLink}
 use Rattle.kernel_parser.specs.Names as names
 use Rattle.kernel_parser.specs.declared.names.fault.NameRule.TheVariants as faults
 use Rattle.kernel_ast.specs.Walk.{joined}

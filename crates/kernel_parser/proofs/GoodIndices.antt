@@ -8,11 +8,11 @@ use Rattle.kernel_ast.specs.declared.tree.IndexTree.TheFolds.{fold-IndexLink, fo
 use Rattle.kernel_ast.specs.declared.tree.IndexLink.{IndexLink}
 use Rattle.kernel_ast.specs.WellFormed as good
 use Rattle.kernel_ast.specs.Weights as weights
-use Rattle.kernel_parser.specs.declared.raw.RawIndexTree.{RawIndexTree, roll-RawIndexTree}
-use Rattle.kernel_parser.specs.declared.raw.RawIndexTree.TheOpen.{RawIndexTree-F, RawIndexLink-F, Number, Name, Minus, Chain}
-use Rattle.kernel_parser.specs.declared.raw.RawIndexTree.TheFolds.{fold-RawIndexLink, fold-roll-RawIndexTree, fold-roll-RawIndexLink, ind-RawIndexTree, map-RawIndexTree, map-RawIndexLink}
-use Rattle.kernel_parser.specs.declared.raw.RawIndexLink.{RawIndexLink, roll-RawIndexLink}
-use Rattle.kernel_parser.specs.declared.raw.RawIndex.{RawIndex}
+use Rattle.kernel_syntax.specs.declared.raw.RawIndexTree.{RawIndexTree, roll-RawIndexTree}
+use Rattle.kernel_syntax.specs.declared.raw.RawIndexTree.TheOpen.{RawIndexTree-F, RawIndexLink-F, Number, Name, Minus, Chain}
+use Rattle.kernel_syntax.specs.declared.raw.RawIndexTree.TheFolds.{fold-RawIndexLink, fold-roll-RawIndexTree, fold-roll-RawIndexLink, ind-RawIndexTree, map-RawIndexTree, map-RawIndexLink}
+use Rattle.kernel_syntax.specs.declared.raw.RawIndexLink.{RawIndexLink, roll-RawIndexLink}
+use Rattle.kernel_syntax.specs.declared.raw.RawIndex.{RawIndex}
 use Rattle.kernel_parser.specs.Names as names
 use Rattle.kernel_ast.specs.Walk.{joined}
 use Rattle.kernel_parser.specs.NameFaults.{NameFault}

@@ -12,17 +12,17 @@ use Rattle.kernel_ast.specs.declared.tree.Stmt.TheFolds.{fold-roll-Stmt, map-Stm
 use Rattle.kernel_ast.specs.WellFormed as good
 use Rattle.kernel_ast.specs.WellFormed.{IsDeclared, IsWellFormed}
 use Rattle.kernel_ast.specs.Weights as weights
-use Rattle.kernel_parser.specs.declared.raw.RawSize.{RawSize}
-use Rattle.kernel_parser.specs.declared.raw.RawDecl.{RawDecl}
-use Rattle.kernel_parser.specs.declared.raw.RawPlace.{RawPlace}
-use Rattle.kernel_parser.specs.declared.raw.RawExpr.{RawExpr}
-use Rattle.kernel_parser.specs.declared.raw.RawLoop.{RawLoop}
-use Rattle.kernel_parser.specs.declared.raw.RawIndex.{RawIndex}
-use Rattle.kernel_parser.specs.declared.raw.RawBranch.{RawBranch}
-use Rattle.kernel_parser.specs.declared.raw.RawStmt.{RawStmt, roll-RawStmt}
-use Rattle.kernel_parser.specs.declared.raw.RawStmt.TheOpen.{RawStmt-F, Assign, Loop, Branch}
-use Rattle.kernel_parser.specs.declared.raw.RawStmt.TheFolds.{fold-roll-RawStmt, ind-RawStmt, map-RawStmt}
-use Rattle.kernel_parser.specs.declared.raw.RawKernel.{RawKernel}
+use Rattle.kernel_syntax.specs.declared.raw.RawSize.{RawSize}
+use Rattle.kernel_syntax.specs.declared.raw.RawDecl.{RawDecl}
+use Rattle.kernel_syntax.specs.declared.raw.RawPlace.{RawPlace}
+use Rattle.kernel_syntax.specs.declared.raw.RawExpr.{RawExpr}
+use Rattle.kernel_syntax.specs.declared.raw.RawLoop.{RawLoop}
+use Rattle.kernel_syntax.specs.declared.raw.RawIndex.{RawIndex}
+use Rattle.kernel_syntax.specs.declared.raw.RawBranch.{RawBranch}
+use Rattle.kernel_syntax.specs.declared.raw.RawStmt.{RawStmt, roll-RawStmt}
+use Rattle.kernel_syntax.specs.declared.raw.RawStmt.TheOpen.{RawStmt-F, Assign, Loop, Branch}
+use Rattle.kernel_syntax.specs.declared.raw.RawStmt.TheFolds.{fold-roll-RawStmt, ind-RawStmt, map-RawStmt}
+use Rattle.kernel_syntax.specs.declared.raw.RawKernel.{RawKernel}
 use Rattle.kernel_parser.specs.Names as names
 use Rattle.kernel_parser.specs.declared.names.fault.NameRule.TheVariants as faults
 use Rattle.kernel_parser.specs.NameFaults.{NameFault, unless}

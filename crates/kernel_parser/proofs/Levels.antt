@@ -9,10 +9,10 @@ use Rattle.kernel_lexer.specs.declared.token.Mark.TheVariants as m
 use Rattle.kernel_lexer.specs.declared.token.TokenKind.{TokenKind}
 use Rattle.kernel_lexer.specs.declared.token.TokenKind.TheVariants as k
 use Rattle.kernel_lexer.specs.declared.token.Token.{Token}
-use Rattle.kernel_parser.specs.Tokens.{rank_of, op_of, is_operator}
-use Rattle.kernel_parser.specs.Grammar.{Linked, Ranked}
+use Rattle.kernel_syntax.specs.Tokens.{rank_of, op_of, is_operator}
+use Rattle.kernel_syntax.specs.Grammar.{Linked, Ranked}
 use Rattle.kernel_parser.proofs.Spelled.{Spelled, spelled_before, spelled_behind}
-use Rattle.word_grammar.specs.Phrases.{Phrase, Many}
+use Rattle.token_grammar.specs.Phrases.{Phrase, Many}
 
 -- What the phrase reads of spelled tokens is so, where the number is that of the tokens.
 abbrev pub Gives : {A : Type 0} → List ℕ → Phrase Token A → (ℕ → A → Type 0) → Type 0

@@ -1,11 +1,4 @@
--- The lemmas of this crate: of the readers, of names, and of whole texts.
-pub mod KindTests
-pub mod Chains
-pub mod IndexSteps
-pub mod ExprSteps
-pub mod StatementSteps
-pub mod KernelSteps
-pub mod Turns
+-- The lemmas of this crate: of names, and of whole texts.
 pub mod Lists
 pub mod Faults
 pub mod Statements

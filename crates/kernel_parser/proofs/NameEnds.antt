@@ -4,7 +4,7 @@ use Rattle.std.specs.Prelude.{IfErr, Result, Ok, Err}
 use Rattle.kernel_lexer.specs.declared.token.Token.{Token}
 use Rattle.kernel_parser.specs.declared.parse_end.ParseEnd.{ParseEnd}
 use Rattle.kernel_parser.specs.declared.parse_end.ParseEnd.TheVariants.{Fault, NoMemory}
-use Rattle.kernel_parser.specs.declared.raw.RawKernel.{RawKernel}
+use Rattle.kernel_syntax.specs.declared.raw.RawKernel.{RawKernel}
 use Rattle.kernel_parser.specs.KernelTexts.{IsWritten, EndMeans}
 use Rattle.kernel_parser.specs.Names.{name_faults}
 use Rattle.kernel_parser.specs.Scopes.{EndsAt}

@@ -12,36 +12,36 @@ use Rattle.kernel_parser.specs.declared.names.scope.Meaning.{Meaning}
 use Rattle.kernel_parser.specs.declared.names.scope.Meaning.TheVariants.{Turn, Element, Unknown}
 use Rattle.kernel_parser.specs.declared.names.fault.NameRule.{NameRule}
 use Rattle.kernel_parser.specs.declared.names.fault.NameRule.TheVariants as faults
-use Rattle.kernel_parser.specs.declared.raw.Span.{Span}
-use Rattle.kernel_parser.specs.declared.raw.RawSize.{RawSize}
-use Rattle.kernel_parser.specs.declared.raw.RawDecl.{RawDecl}
-use Rattle.kernel_parser.specs.declared.raw.RawIndexTree.{RawIndexTree}
-use Rattle.kernel_parser.specs.declared.raw.RawIndexTree.TheOpen as open_index
-use Rattle.kernel_parser.specs.declared.raw.RawIndexTree.TheVariants as index
-use Rattle.kernel_parser.specs.declared.raw.RawIndexTree.TheFolds.{fold-roll-RawIndexTree, fold-roll-RawIndexLink}
-use Rattle.kernel_parser.specs.declared.raw.RawIndexLink.{RawIndexLink}
-use Rattle.kernel_parser.specs.declared.raw.RawIndex.{RawIndex}
-use Rattle.kernel_parser.specs.declared.raw.RawPlace.{RawPlace}
-use Rattle.kernel_parser.specs.declared.raw.RawExpr.{RawExpr}
-use Rattle.kernel_parser.specs.declared.raw.RawExpr.TheOpen as open_expr
-use Rattle.kernel_parser.specs.declared.raw.RawExpr.TheVariants as expr
-use Rattle.kernel_parser.specs.declared.raw.RawExpr.TheFolds.{fold-roll-RawExpr, fold-roll-RawLink}
-use Rattle.kernel_parser.specs.declared.raw.RawLink.{RawLink}
-use Rattle.kernel_parser.specs.declared.raw.RawLoop.{RawLoop}
-use Rattle.kernel_parser.specs.declared.raw.RawBranch.{RawBranch}
-use Rattle.kernel_parser.specs.declared.raw.RawStmt.{RawStmt}
-use Rattle.kernel_parser.specs.declared.raw.RawStmt.TheOpen as open_stmt
-use Rattle.kernel_parser.specs.declared.raw.RawStmt.TheVariants as stmt
-use Rattle.kernel_parser.specs.declared.raw.RawStmt.TheFolds.{fold-roll-RawStmt}
+use Rattle.kernel_syntax.specs.declared.raw.Span.{Span}
+use Rattle.kernel_syntax.specs.declared.raw.RawSize.{RawSize}
+use Rattle.kernel_syntax.specs.declared.raw.RawDecl.{RawDecl}
+use Rattle.kernel_syntax.specs.declared.raw.RawIndexTree.{RawIndexTree}
+use Rattle.kernel_syntax.specs.declared.raw.RawIndexTree.TheOpen as open_index
+use Rattle.kernel_syntax.specs.declared.raw.RawIndexTree.TheVariants as index
+use Rattle.kernel_syntax.specs.declared.raw.RawIndexTree.TheFolds.{fold-roll-RawIndexTree, fold-roll-RawIndexLink}
+use Rattle.kernel_syntax.specs.declared.raw.RawIndexLink.{RawIndexLink}
+use Rattle.kernel_syntax.specs.declared.raw.RawIndex.{RawIndex}
+use Rattle.kernel_syntax.specs.declared.raw.RawPlace.{RawPlace}
+use Rattle.kernel_syntax.specs.declared.raw.RawExpr.{RawExpr}
+use Rattle.kernel_syntax.specs.declared.raw.RawExpr.TheOpen as open_expr
+use Rattle.kernel_syntax.specs.declared.raw.RawExpr.TheVariants as expr
+use Rattle.kernel_syntax.specs.declared.raw.RawExpr.TheFolds.{fold-roll-RawExpr, fold-roll-RawLink}
+use Rattle.kernel_syntax.specs.declared.raw.RawLink.{RawLink}
+use Rattle.kernel_syntax.specs.declared.raw.RawLoop.{RawLoop}
+use Rattle.kernel_syntax.specs.declared.raw.RawBranch.{RawBranch}
+use Rattle.kernel_syntax.specs.declared.raw.RawStmt.{RawStmt}
+use Rattle.kernel_syntax.specs.declared.raw.RawStmt.TheOpen as open_stmt
+use Rattle.kernel_syntax.specs.declared.raw.RawStmt.TheVariants as stmt
+use Rattle.kernel_syntax.specs.declared.raw.RawStmt.TheFolds.{fold-roll-RawStmt}
 use Rattle.kernel_parser.specs.NameFaults.{NameFault, unless}
 use Rattle.kernel_parser.specs.Names.{Known, known_in, word, meaning, index_name_faults, index_faults_step, index_link_step, index_tree_faults, index_link_faults, index_faults, indices_faults, read_faults, target_faults, place_faults, target_place_faults, expr_faults_step, link_step, expr_faults, link_faults, twice_faults, step_faults, header_faults, condition_faults, assign_faults, stmt_faults_step, stmt_faults, body_faults, is_size, sizes_faults, declared, decls_faults, name_faults}
 use Rattle.kernel_parser.specs.TextLaws.{NameFaultsInOrder}
-use Rattle.kernel_parser.specs.Tokens.{is_name, is_number, is_relation, is_role, is_pair, is_triple, sign, span, number_of, op_of, relation_of}
-use Rattle.kernel_parser.specs.Tokens as token
-use Rattle.kernel_parser.specs.Trees as tree
-use Rattle.kernel_parser.specs.Grammar as rule
+use Rattle.kernel_syntax.specs.Tokens.{is_name, is_number, is_relation, is_role, is_pair, is_triple, sign, span, number_of, op_of, relation_of}
+use Rattle.kernel_syntax.specs.Tokens as token
+use Rattle.kernel_syntax.specs.Trees as tree
+use Rattle.kernel_syntax.specs.Grammar as rule
 use Rattle.kernel_parser.proofs.FaultPlaces.{Within, wider, within_both, Rise, parts, Stand, same_stand, made_stand, either_stand, one_stand, both_stand, front_stand, behind_stand, brackets_stand, ranked_stand}
-use Rattle.word_grammar.specs.Phrases.{Phrase, One, Both, Either, Made, Many, Maybe}
+use Rattle.token_grammar.specs.Phrases.{Phrase, One, Both, Either, Made, Many, Maybe}
 
 -- ---- the faults at one name
 

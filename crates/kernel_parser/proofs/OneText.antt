@@ -6,22 +6,22 @@ use Rattle.kernel_lexer.specs.declared.token.Token.{Token}
 use Rattle.kernel_lexer.specs.Texts.{AreTextTokens, IsTextFault}
 use Rattle.kernel_lexer.proofs.Always.{always_one}
 use Rattle.kernel_lexer.proofs.Fronts.{one_token_list, one_first_fault, never_both as no_token_fault}
-use Rattle.kernel_parser.specs.declared.raw.RawKernel.{RawKernel}
-use Rattle.kernel_parser.specs.Grammar.{Whole}
+use Rattle.kernel_syntax.specs.declared.raw.RawKernel.{RawKernel}
+use Rattle.kernel_syntax.specs.Grammar.{Whole}
 use Rattle.kernel_parser.specs.KernelTexts.{IsWritten, Reads, IsTokenFault, IsSyntaxFault, IsNameFault, IsFaultOfText, syntax_code}
 use Rattle.kernel_parser.specs.NameFaults.{NameFault}
 use Rattle.kernel_parser.specs.Names.{name_faults}
-use Rattle.kernel_parser.specs.Parsing.{whole}
-use Rattle.kernel_parser.specs.Reading.{place_of}
+use Rattle.kernel_syntax.specs.Parsing.{whole}
+use Rattle.kernel_syntax.specs.Reading.{place_of}
 use Rattle.kernel_parser.specs.Resolved.{tree_of}
 use Rattle.kernel_parser.specs.TextLaws.{OneKernel, OneTextFault, KernelWithoutFault, KernelOrFault, KernelsAreWellFormed}
 use Rattle.kernel_parser.proofs.GoodKernels.{kernel_holds}
-use Rattle.kernel_parser.proofs.KernelSteps.{whole_step}
+use Rattle.kernel_syntax.proofs.KernelSteps.{whole_step}
 use Rattle.kernel_parser.proofs.ReadKernels.{text_fits}
-use Rattle.word_grammar.specs.declared.fault.GrammarFault.{GrammarFault}
-use Rattle.word_grammar.specs.Faults.{IsFaultOf}
-use Rattle.word_grammar.specs.Readers.{first}
-use Rattle.word_grammar.proofs.Texts.{only_reading, one_fault, never_both as no_syntax_fault, word_or_fault}
+use Rattle.token_grammar.specs.declared.fault.GrammarFault.{GrammarFault}
+use Rattle.token_grammar.specs.Faults.{IsFaultOf}
+use Rattle.token_grammar.specs.Readers.{first}
+use Rattle.token_grammar.proofs.Texts.{only_reading, one_fault, never_both as no_syntax_fault, word_or_fault}
 
 -- ---- one tree
 

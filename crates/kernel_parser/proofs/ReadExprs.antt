@@ -10,21 +10,21 @@ use Rattle.kernel_lexer.specs.declared.token.Mark.TheVariants as m
 use Rattle.kernel_lexer.specs.declared.token.TokenKind.{TokenKind}
 use Rattle.kernel_lexer.specs.declared.token.TokenKind.TheVariants as k
 use Rattle.kernel_lexer.specs.declared.token.Token.{Token}
-use Rattle.kernel_parser.specs.declared.raw.RawPlace.{RawPlace}
-use Rattle.kernel_parser.specs.declared.raw.RawExpr.{RawExpr}
-use Rattle.kernel_parser.specs.declared.raw.RawExpr.TheOpen as open_expr
-use Rattle.kernel_parser.specs.declared.raw.RawExpr.TheVariants as expr
-use Rattle.kernel_parser.specs.declared.raw.RawExpr.TheFolds.{fold-RawLink, fold-roll-RawExpr, fold-roll-RawLink}
-use Rattle.kernel_parser.specs.declared.raw.RawLink.{RawLink}
-use Rattle.kernel_parser.specs.Tokens.{tag, number_of, op_of}
-use Rattle.kernel_parser.specs.Trees as tree
-use Rattle.kernel_parser.specs.Grammar.{Leaf, ExprOf, Unary, Expr}
+use Rattle.kernel_syntax.specs.declared.raw.RawPlace.{RawPlace}
+use Rattle.kernel_syntax.specs.declared.raw.RawExpr.{RawExpr}
+use Rattle.kernel_syntax.specs.declared.raw.RawExpr.TheOpen as open_expr
+use Rattle.kernel_syntax.specs.declared.raw.RawExpr.TheVariants as expr
+use Rattle.kernel_syntax.specs.declared.raw.RawExpr.TheFolds.{fold-RawLink, fold-roll-RawExpr, fold-roll-RawLink}
+use Rattle.kernel_syntax.specs.declared.raw.RawLink.{RawLink}
+use Rattle.kernel_syntax.specs.Tokens.{tag, number_of, op_of}
+use Rattle.kernel_syntax.specs.Trees as tree
+use Rattle.kernel_syntax.specs.Grammar.{Leaf, ExprOf, Unary, Expr}
 use Rattle.kernel_parser.specs.RawFits as fits
 use Rattle.kernel_parser.specs.RawWeights as weights
 use Rattle.kernel_parser.proofs.Spelled.{Spelled, number_spelled}
 use Rattle.kernel_parser.proofs.Levels.{Gives, Fit, two_parts, sum_cons, ranked}
 use Rattle.kernel_parser.proofs.ReadIndices.{place_read}
-use Rattle.word_grammar.specs.Phrases.{Phrase}
+use Rattle.token_grammar.specs.Phrases.{Phrase}
 
 -- an operator, with whether its right operand fits
 abbrev link_pair : RawLink → Op × Bool

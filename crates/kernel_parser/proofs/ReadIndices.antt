@@ -3,21 +3,21 @@ use Rattle.std.proofs.Common.{◌≡◌, ◌+◌, ◌≤◌, ◌&&◌, ◌∷◌
 use Rattle.comp_graph.specs.declared.operation.Op.{Op}
 use Rattle.kernel_ast.specs.WellFormed.{is_number, are_index_operators, all}
 use Rattle.kernel_lexer.specs.declared.token.Token.{Token}
-use Rattle.kernel_parser.specs.declared.raw.Span.{Span}
-use Rattle.kernel_parser.specs.declared.raw.RawIndexTree.{RawIndexTree}
-use Rattle.kernel_parser.specs.declared.raw.RawIndexTree.TheOpen as open_index
-use Rattle.kernel_parser.specs.declared.raw.RawIndexTree.TheVariants as index
-use Rattle.kernel_parser.specs.declared.raw.RawIndexTree.TheFolds.{fold-RawIndexLink, fold-roll-RawIndexTree, fold-roll-RawIndexLink}
-use Rattle.kernel_parser.specs.declared.raw.RawIndexLink.{RawIndexLink}
-use Rattle.kernel_parser.specs.declared.raw.RawIndex.{RawIndex}
-use Rattle.kernel_parser.specs.Tokens.{span, number_of, op_of}
-use Rattle.kernel_parser.specs.Trees as tree
-use Rattle.kernel_parser.specs.Grammar.{Bracket, Brackets, IndexLeaf, IndexOf, IndexUnary, Index, Place}
+use Rattle.kernel_syntax.specs.declared.raw.Span.{Span}
+use Rattle.kernel_syntax.specs.declared.raw.RawIndexTree.{RawIndexTree}
+use Rattle.kernel_syntax.specs.declared.raw.RawIndexTree.TheOpen as open_index
+use Rattle.kernel_syntax.specs.declared.raw.RawIndexTree.TheVariants as index
+use Rattle.kernel_syntax.specs.declared.raw.RawIndexTree.TheFolds.{fold-RawIndexLink, fold-roll-RawIndexTree, fold-roll-RawIndexLink}
+use Rattle.kernel_syntax.specs.declared.raw.RawIndexLink.{RawIndexLink}
+use Rattle.kernel_syntax.specs.declared.raw.RawIndex.{RawIndex}
+use Rattle.kernel_syntax.specs.Tokens.{span, number_of, op_of}
+use Rattle.kernel_syntax.specs.Trees as tree
+use Rattle.kernel_syntax.specs.Grammar.{Bracket, Brackets, IndexLeaf, IndexOf, IndexUnary, Index, Place}
 use Rattle.kernel_parser.specs.RawFits as fits
 use Rattle.kernel_parser.specs.RawWeights as weights
 use Rattle.kernel_parser.proofs.Spelled.{Spelled, number_spelled}
 use Rattle.kernel_parser.proofs.Levels.{Gives, Fit, two_parts, sum_cons, ranked}
-use Rattle.word_grammar.specs.Phrases.{Phrase}
+use Rattle.token_grammar.specs.Phrases.{Phrase}
 
 -- an operator of an index, with whether its right operand fits
 abbrev link_pair : RawIndexLink → Op × Bool

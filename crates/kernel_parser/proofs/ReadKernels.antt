@@ -5,18 +5,18 @@ use Rattle.std.proofs.lemmas.Bool.{le-leb, lt-ltb}
 use Rattle.std.proofs.lemmas.List.Elements.{All-nil, All-cons}
 use Rattle.kernel_lexer.specs.declared.token.Token.{Token}
 use Rattle.kernel_lexer.specs.Texts.{AreTextTokens}
-use Rattle.kernel_parser.specs.declared.raw.RawSize.{RawSize}
-use Rattle.kernel_parser.specs.declared.raw.RawPlace.{RawPlace}
-use Rattle.kernel_parser.specs.declared.raw.RawExpr.{RawExpr}
-use Rattle.kernel_parser.specs.declared.raw.RawLoop.{RawLoop}
-use Rattle.kernel_parser.specs.declared.raw.RawBranch.{RawBranch}
-use Rattle.kernel_parser.specs.declared.raw.RawStmt.{RawStmt}
-use Rattle.kernel_parser.specs.declared.raw.RawStmt.TheOpen as open_stmt
-use Rattle.kernel_parser.specs.declared.raw.RawStmt.TheVariants as stmt
-use Rattle.kernel_parser.specs.declared.raw.RawStmt.TheFolds.{fold-roll-RawStmt}
-use Rattle.kernel_parser.specs.declared.raw.RawKernel.{RawKernel}
-use Rattle.kernel_parser.specs.Trees as tree
-use Rattle.kernel_parser.specs.Grammar.{Block, Step, Header, Condition, Otherwise, Assigned, Statement, Declared, Whole}
+use Rattle.kernel_syntax.specs.declared.raw.RawSize.{RawSize}
+use Rattle.kernel_syntax.specs.declared.raw.RawPlace.{RawPlace}
+use Rattle.kernel_syntax.specs.declared.raw.RawExpr.{RawExpr}
+use Rattle.kernel_syntax.specs.declared.raw.RawLoop.{RawLoop}
+use Rattle.kernel_syntax.specs.declared.raw.RawBranch.{RawBranch}
+use Rattle.kernel_syntax.specs.declared.raw.RawStmt.{RawStmt}
+use Rattle.kernel_syntax.specs.declared.raw.RawStmt.TheOpen as open_stmt
+use Rattle.kernel_syntax.specs.declared.raw.RawStmt.TheVariants as stmt
+use Rattle.kernel_syntax.specs.declared.raw.RawStmt.TheFolds.{fold-roll-RawStmt}
+use Rattle.kernel_syntax.specs.declared.raw.RawKernel.{RawKernel}
+use Rattle.kernel_syntax.specs.Trees as tree
+use Rattle.kernel_syntax.specs.Grammar.{Block, Step, Header, Condition, Otherwise, Assigned, Statement, Declared, Whole}
 use Rattle.kernel_parser.specs.RawFits as fits
 use Rattle.kernel_parser.specs.RawFits.{DeclFits, Fits}
 use Rattle.kernel_parser.specs.RawWeights as weights
@@ -24,7 +24,7 @@ use Rattle.kernel_parser.proofs.Spelled.{Spelled, tokens_spelled, name_spelled}
 use Rattle.kernel_parser.proofs.Levels.{Gives, Fit, two_parts}
 use Rattle.kernel_parser.proofs.ReadIndices.{index_read, place_read}
 use Rattle.kernel_parser.proofs.ReadExprs.{expr_read}
-use Rattle.word_grammar.specs.Phrases.{Many, Maybe}
+use Rattle.token_grammar.specs.Phrases.{Many, Maybe}
 
 -- ---- statements
 

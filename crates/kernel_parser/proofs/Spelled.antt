@@ -24,7 +24,7 @@ use Rattle.kernel_lexer.specs.Texts.{AreTextTokens}
 use Rattle.kernel_lexer.proofs.Spans.{spans_rise}
 use Rattle.kernel_parser.specs.Names.{word}
 use Rattle.kernel_parser.proofs.Lists.{and_left, and_right}
-use Rattle.kernel_parser.specs.Tokens.{tag, is_name, is_number, number_of, span}
+use Rattle.kernel_syntax.specs.Tokens.{tag, is_name, is_number, number_of, span}
 
 -- each of the tokens spells what it is
 abbrev pub Spelled : List ℕ → List Token → Type 0

@@ -3,14 +3,14 @@ use Rattle.std.proofs.Common.{◌≡◌, ◌++◌, ◌∷◌, [], ℕ, List, sym
 use Rattle.kernel_ast.specs.KernelParts.{Declared}
 use Rattle.kernel_ast.specs.declared.tree.Stmt.{Stmt}
 use Rattle.kernel_ast.specs.declared.tree.Stmt.TheVariants as stmt
-use Rattle.kernel_parser.specs.declared.raw.RawPlace.{RawPlace}
-use Rattle.kernel_parser.specs.declared.raw.RawExpr.{RawExpr}
-use Rattle.kernel_parser.specs.declared.raw.RawLoop.{RawLoop}
-use Rattle.kernel_parser.specs.declared.raw.RawBranch.{RawBranch}
-use Rattle.kernel_parser.specs.declared.raw.RawStmt.{RawStmt}
-use Rattle.kernel_parser.specs.declared.raw.RawStmt.TheVariants as raw
-use Rattle.kernel_parser.specs.declared.raw.RawStmt.TheOpen as open_raw
-use Rattle.kernel_parser.specs.declared.raw.RawStmt.TheFolds.{fold-roll-RawStmt}
+use Rattle.kernel_syntax.specs.declared.raw.RawPlace.{RawPlace}
+use Rattle.kernel_syntax.specs.declared.raw.RawExpr.{RawExpr}
+use Rattle.kernel_syntax.specs.declared.raw.RawLoop.{RawLoop}
+use Rattle.kernel_syntax.specs.declared.raw.RawBranch.{RawBranch}
+use Rattle.kernel_syntax.specs.declared.raw.RawStmt.{RawStmt}
+use Rattle.kernel_syntax.specs.declared.raw.RawStmt.TheVariants as raw
+use Rattle.kernel_syntax.specs.declared.raw.RawStmt.TheOpen as open_raw
+use Rattle.kernel_syntax.specs.declared.raw.RawStmt.TheFolds.{fold-roll-RawStmt}
 use Rattle.kernel_parser.specs.NameFaults.{NameFault}
 use Rattle.kernel_parser.specs.Names.{known_in, word, stmt_faults_step, assign_faults, header_faults, condition_faults, stmt_faults, body_faults}
 use Rattle.kernel_parser.specs.Resolved.{stmt_step, assign_of, index_of, step_of, stmt_of, body_of}

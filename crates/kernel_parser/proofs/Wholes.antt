@@ -2,9 +2,9 @@
 use Rattle.std.proofs.Common.{◌≡◌, ◌++◌, [], ℕ, List, map, sym, ap, ◌∙◌}
 use Rattle.kernel_ast.specs.KernelParts.{Declared, KernelParts}
 use Rattle.kernel_ast.specs.declared.tree.Stmt.{Stmt}
-use Rattle.kernel_parser.specs.declared.raw.RawDecl.{RawDecl}
-use Rattle.kernel_parser.specs.declared.raw.RawStmt.{RawStmt}
-use Rattle.kernel_parser.specs.declared.raw.RawKernel.{RawKernel}
+use Rattle.kernel_syntax.specs.declared.raw.RawDecl.{RawDecl}
+use Rattle.kernel_syntax.specs.declared.raw.RawStmt.{RawStmt}
+use Rattle.kernel_syntax.specs.declared.raw.RawKernel.{RawKernel}
 use Rattle.kernel_parser.specs.Names.{word, declared, decls_faults, body_faults, name_faults}
 use Rattle.kernel_parser.specs.Resolved.{body_of, tree_of}
 

@@ -8,17 +8,17 @@ use Rattle.kernel_lexer.specs.declared.token.Token.{Token}
 use Rattle.kernel_lexer.specs.Texts.{AreTextTokens, IsTextFault}
 use Rattle.kernel_parser.specs.declared.parse_end.ParseEnd.{ParseEnd}
 use Rattle.kernel_parser.specs.declared.parse_end.ParseEnd.TheVariants.{Fault, NoMemory}
-use Rattle.kernel_parser.specs.declared.raw.RawKernel.{RawKernel}
-use Rattle.kernel_parser.specs.declared.syntax.SyntaxEnd.{SyntaxEnd}
-use Rattle.kernel_parser.specs.declared.syntax.SyntaxEnd.TheVariants as syntax
-use Rattle.kernel_parser.specs.Grammar.{Whole}
+use Rattle.kernel_syntax.specs.declared.raw.RawKernel.{RawKernel}
+use Rattle.kernel_syntax.specs.declared.syntax.SyntaxEnd.{SyntaxEnd}
+use Rattle.kernel_syntax.specs.declared.syntax.SyntaxEnd.TheVariants as syntax
+use Rattle.kernel_syntax.specs.Grammar.{Whole}
 use Rattle.kernel_parser.specs.Names.{name_faults}
-use Rattle.kernel_parser.specs.Reading.{place_of}
+use Rattle.kernel_syntax.specs.Reading.{place_of}
 use Rattle.kernel_parser.specs.Resolved.{tree_of}
-use Rattle.word_grammar.specs.declared.fault.GrammarFault.{GrammarFault}
-use Rattle.word_grammar.specs.declared.fault.GrammarFault.TheVariants.{Syntax, TooDeep}
-use Rattle.word_grammar.specs.Faults.{IsFaultOf}
-use Rattle.word_grammar.specs.Readers.{first}
+use Rattle.token_grammar.specs.declared.fault.GrammarFault.{GrammarFault}
+use Rattle.token_grammar.specs.declared.fault.GrammarFault.TheVariants.{Syntax, TooDeep}
+use Rattle.token_grammar.specs.Faults.{IsFaultOf}
+use Rattle.token_grammar.specs.Readers.{first}
 
 -- ---- kernels
 

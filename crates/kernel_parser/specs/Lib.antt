@@ -1,11 +1,4 @@
--- The definitions of this crate: the grammar and its readers, the faults and the meaning of names, and what a text stands for.
-pub mod Tokens
-pub mod Trees
-pub mod Grammar
-pub mod Parsing
-pub mod Reading
-pub mod Syntax
-pub mod Laws
+-- The definitions of this crate: the faults and the meaning of names, and what a text stands for.
 pub mod NameFaults
 pub mod NameOrder
 pub mod Names

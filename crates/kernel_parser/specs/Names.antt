@@ -7,24 +7,24 @@ use Rattle.kernel_parser.specs.declared.names.scope.Meaning.TheVariants.{Turn, E
 use Rattle.kernel_parser.specs.declared.names.fault.NameRule.TheVariants as faults
 use Rattle.kernel_ast.specs.Walk.{joined}
 use Rattle.kernel_parser.specs.NameFaults.{NameFault, fault, unless}
-use Rattle.kernel_parser.specs.declared.raw.Span.{Span}
-use Rattle.kernel_parser.specs.declared.raw.RawSize.{RawSize}
-use Rattle.kernel_parser.specs.declared.raw.RawDecl.{RawDecl}
-use Rattle.kernel_parser.specs.declared.raw.RawIndexTree.{RawIndexTree, fold-RawIndexTree}
-use Rattle.kernel_parser.specs.declared.raw.RawIndexTree.TheOpen as index
-use Rattle.kernel_parser.specs.declared.raw.RawIndexTree.TheFolds.{fold-RawIndexLink}
-use Rattle.kernel_parser.specs.declared.raw.RawIndexLink.{RawIndexLink}
-use Rattle.kernel_parser.specs.declared.raw.RawIndex.{RawIndex}
-use Rattle.kernel_parser.specs.declared.raw.RawPlace.{RawPlace}
-use Rattle.kernel_parser.specs.declared.raw.RawExpr.{RawExpr, fold-RawExpr}
-use Rattle.kernel_parser.specs.declared.raw.RawExpr.TheOpen.{RawExpr-F, RawLink-F, Number, Place, Minus, Chain, Call}
-use Rattle.kernel_parser.specs.declared.raw.RawExpr.TheFolds.{fold-RawLink}
-use Rattle.kernel_parser.specs.declared.raw.RawLink.{RawLink}
-use Rattle.kernel_parser.specs.declared.raw.RawLoop.{RawLoop}
-use Rattle.kernel_parser.specs.declared.raw.RawBranch.{RawBranch}
-use Rattle.kernel_parser.specs.declared.raw.RawStmt.{RawStmt, fold-RawStmt}
-use Rattle.kernel_parser.specs.declared.raw.RawStmt.TheOpen.{RawStmt-F, Assign, Loop, Branch}
-use Rattle.kernel_parser.specs.declared.raw.RawKernel.{RawKernel}
+use Rattle.kernel_syntax.specs.declared.raw.Span.{Span}
+use Rattle.kernel_syntax.specs.declared.raw.RawSize.{RawSize}
+use Rattle.kernel_syntax.specs.declared.raw.RawDecl.{RawDecl}
+use Rattle.kernel_syntax.specs.declared.raw.RawIndexTree.{RawIndexTree, fold-RawIndexTree}
+use Rattle.kernel_syntax.specs.declared.raw.RawIndexTree.TheOpen as index
+use Rattle.kernel_syntax.specs.declared.raw.RawIndexTree.TheFolds.{fold-RawIndexLink}
+use Rattle.kernel_syntax.specs.declared.raw.RawIndexLink.{RawIndexLink}
+use Rattle.kernel_syntax.specs.declared.raw.RawIndex.{RawIndex}
+use Rattle.kernel_syntax.specs.declared.raw.RawPlace.{RawPlace}
+use Rattle.kernel_syntax.specs.declared.raw.RawExpr.{RawExpr, fold-RawExpr}
+use Rattle.kernel_syntax.specs.declared.raw.RawExpr.TheOpen.{RawExpr-F, RawLink-F, Number, Place, Minus, Chain, Call}
+use Rattle.kernel_syntax.specs.declared.raw.RawExpr.TheFolds.{fold-RawLink}
+use Rattle.kernel_syntax.specs.declared.raw.RawLink.{RawLink}
+use Rattle.kernel_syntax.specs.declared.raw.RawLoop.{RawLoop}
+use Rattle.kernel_syntax.specs.declared.raw.RawBranch.{RawBranch}
+use Rattle.kernel_syntax.specs.declared.raw.RawStmt.{RawStmt, fold-RawStmt}
+use Rattle.kernel_syntax.specs.declared.raw.RawStmt.TheOpen.{RawStmt-F, Assign, Loop, Branch}
+use Rattle.kernel_syntax.specs.declared.raw.RawKernel.{RawKernel}
 
 -- ---- what names stand for
 

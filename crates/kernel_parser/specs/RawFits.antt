@@ -6,18 +6,18 @@ use Rattle.comp_graph.specs.declared.operation.Op.{Op}
 use Rattle.comp_graph.specs.Operations.{arity_of}
 use Rattle.kernel_ast.specs.Names.{IsName}
 use Rattle.kernel_ast.specs.WellFormed.{is_number, are_index_operators, are_operators, is_function, all, all_at}
-use Rattle.kernel_parser.specs.declared.raw.RawDecl.{RawDecl}
-use Rattle.kernel_parser.specs.declared.raw.RawIndexTree.{RawIndexTree, fold-RawIndexTree}
-use Rattle.kernel_parser.specs.declared.raw.RawIndexTree.TheOpen as index
-use Rattle.kernel_parser.specs.declared.raw.RawIndex.{RawIndex}
-use Rattle.kernel_parser.specs.declared.raw.RawPlace.{RawPlace}
-use Rattle.kernel_parser.specs.declared.raw.RawExpr.{RawExpr, fold-RawExpr}
-use Rattle.kernel_parser.specs.declared.raw.RawExpr.TheOpen.{RawExpr-F, RawLink-F, Number, Place, Minus, Chain, Call}
-use Rattle.kernel_parser.specs.declared.raw.RawLoop.{RawLoop}
-use Rattle.kernel_parser.specs.declared.raw.RawBranch.{RawBranch}
-use Rattle.kernel_parser.specs.declared.raw.RawStmt.{RawStmt, fold-RawStmt}
-use Rattle.kernel_parser.specs.declared.raw.RawStmt.TheOpen.{RawStmt-F, Assign, Loop, Branch}
-use Rattle.kernel_parser.specs.declared.raw.RawKernel.{RawKernel}
+use Rattle.kernel_syntax.specs.declared.raw.RawDecl.{RawDecl}
+use Rattle.kernel_syntax.specs.declared.raw.RawIndexTree.{RawIndexTree, fold-RawIndexTree}
+use Rattle.kernel_syntax.specs.declared.raw.RawIndexTree.TheOpen as index
+use Rattle.kernel_syntax.specs.declared.raw.RawIndex.{RawIndex}
+use Rattle.kernel_syntax.specs.declared.raw.RawPlace.{RawPlace}
+use Rattle.kernel_syntax.specs.declared.raw.RawExpr.{RawExpr, fold-RawExpr}
+use Rattle.kernel_syntax.specs.declared.raw.RawExpr.TheOpen.{RawExpr-F, RawLink-F, Number, Place, Minus, Chain, Call}
+use Rattle.kernel_syntax.specs.declared.raw.RawLoop.{RawLoop}
+use Rattle.kernel_syntax.specs.declared.raw.RawBranch.{RawBranch}
+use Rattle.kernel_syntax.specs.declared.raw.RawStmt.{RawStmt, fold-RawStmt}
+use Rattle.kernel_syntax.specs.declared.raw.RawStmt.TheOpen.{RawStmt-F, Assign, Loop, Branch}
+use Rattle.kernel_syntax.specs.declared.raw.RawKernel.{RawKernel}
 use Rattle.kernel_parser.specs.Names.{word}
 use Rattle.kernel_parser.specs.RawWeights.{assign_weight, loop_weight, branch_weight}
 

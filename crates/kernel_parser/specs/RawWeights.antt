@@ -1,14 +1,14 @@
 -- How many turns a statement counts as it is reached, on the tree as it is written (this project's convention): 1, and 1 for each
 -- number, name, operator sign and function word in it.
 use Rattle.std.specs.Prelude.{◌+◌, ℕ, map, sum, Option, Some, None}
-use Rattle.kernel_parser.specs.declared.raw.RawIndexTree.{RawIndexTree, fold-RawIndexTree}
-use Rattle.kernel_parser.specs.declared.raw.RawIndexTree.TheOpen as index
-use Rattle.kernel_parser.specs.declared.raw.RawIndex.{RawIndex}
-use Rattle.kernel_parser.specs.declared.raw.RawPlace.{RawPlace}
-use Rattle.kernel_parser.specs.declared.raw.RawExpr.{RawExpr, fold-RawExpr}
-use Rattle.kernel_parser.specs.declared.raw.RawExpr.TheOpen.{RawExpr-F, RawLink-F, Number, Place, Minus, Chain, Call}
-use Rattle.kernel_parser.specs.declared.raw.RawLoop.{RawLoop}
-use Rattle.kernel_parser.specs.declared.raw.RawBranch.{RawBranch}
+use Rattle.kernel_syntax.specs.declared.raw.RawIndexTree.{RawIndexTree, fold-RawIndexTree}
+use Rattle.kernel_syntax.specs.declared.raw.RawIndexTree.TheOpen as index
+use Rattle.kernel_syntax.specs.declared.raw.RawIndex.{RawIndex}
+use Rattle.kernel_syntax.specs.declared.raw.RawPlace.{RawPlace}
+use Rattle.kernel_syntax.specs.declared.raw.RawExpr.{RawExpr, fold-RawExpr}
+use Rattle.kernel_syntax.specs.declared.raw.RawExpr.TheOpen.{RawExpr-F, RawLink-F, Number, Place, Minus, Chain, Call}
+use Rattle.kernel_syntax.specs.declared.raw.RawLoop.{RawLoop}
+use Rattle.kernel_syntax.specs.declared.raw.RawBranch.{RawBranch}
 
 -- one layer of an index: a number or a name counts 1, a minus 1 more than its operand
 abbrev pub tree_weight_step : index.RawIndexTree-F ℕ ℕ → ℕ

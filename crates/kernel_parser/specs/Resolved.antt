@@ -14,19 +14,19 @@ use Rattle.kernel_ast.specs.declared.tree.Stmt.{Stmt}
 use Rattle.kernel_ast.specs.declared.tree.Stmt.TheVariants as stmt
 use Rattle.kernel_parser.specs.declared.names.scope.Meaning.{Meaning}
 use Rattle.kernel_parser.specs.declared.names.scope.Meaning.TheVariants.{Turn, Element, Unknown}
-use Rattle.kernel_parser.specs.declared.raw.RawIndexTree.{RawIndexTree, fold-RawIndexTree}
-use Rattle.kernel_parser.specs.declared.raw.RawIndexTree.TheOpen as raw_index
-use Rattle.kernel_parser.specs.declared.raw.RawIndexTree.TheFolds.{fold-RawIndexLink}
-use Rattle.kernel_parser.specs.declared.raw.RawIndexLink.{RawIndexLink}
-use Rattle.kernel_parser.specs.declared.raw.RawIndex.{RawIndex}
-use Rattle.kernel_parser.specs.declared.raw.RawPlace.{RawPlace}
-use Rattle.kernel_parser.specs.declared.raw.RawExpr.{RawExpr, fold-RawExpr}
-use Rattle.kernel_parser.specs.declared.raw.RawExpr.TheOpen.{RawExpr-F, RawLink-F, Number, Place as Read, Minus, Chain, Call}
-use Rattle.kernel_parser.specs.declared.raw.RawExpr.TheFolds.{fold-RawLink}
-use Rattle.kernel_parser.specs.declared.raw.RawLink.{RawLink}
-use Rattle.kernel_parser.specs.declared.raw.RawStmt.{RawStmt, fold-RawStmt}
-use Rattle.kernel_parser.specs.declared.raw.RawStmt.TheOpen.{RawStmt-F, Assign, Loop, Branch}
-use Rattle.kernel_parser.specs.declared.raw.RawKernel.{RawKernel}
+use Rattle.kernel_syntax.specs.declared.raw.RawIndexTree.{RawIndexTree, fold-RawIndexTree}
+use Rattle.kernel_syntax.specs.declared.raw.RawIndexTree.TheOpen as raw_index
+use Rattle.kernel_syntax.specs.declared.raw.RawIndexTree.TheFolds.{fold-RawIndexLink}
+use Rattle.kernel_syntax.specs.declared.raw.RawIndexLink.{RawIndexLink}
+use Rattle.kernel_syntax.specs.declared.raw.RawIndex.{RawIndex}
+use Rattle.kernel_syntax.specs.declared.raw.RawPlace.{RawPlace}
+use Rattle.kernel_syntax.specs.declared.raw.RawExpr.{RawExpr, fold-RawExpr}
+use Rattle.kernel_syntax.specs.declared.raw.RawExpr.TheOpen.{RawExpr-F, RawLink-F, Number, Place as Read, Minus, Chain, Call}
+use Rattle.kernel_syntax.specs.declared.raw.RawExpr.TheFolds.{fold-RawLink}
+use Rattle.kernel_syntax.specs.declared.raw.RawLink.{RawLink}
+use Rattle.kernel_syntax.specs.declared.raw.RawStmt.{RawStmt, fold-RawStmt}
+use Rattle.kernel_syntax.specs.declared.raw.RawStmt.TheOpen.{RawStmt-F, Assign, Loop, Branch}
+use Rattle.kernel_syntax.specs.declared.raw.RawKernel.{RawKernel}
 use Rattle.kernel_parser.specs.Names.{Known, meaning, word, known_in, declared}
 
 -- what a name in an index stands for

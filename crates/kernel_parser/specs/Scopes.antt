@@ -6,7 +6,7 @@ use Rattle.kernel_parser.specs.declared.names.scope.Table.{Table}
 use Rattle.kernel_parser.specs.declared.parse_end.ParseEnd.{ParseEnd}
 use Rattle.kernel_parser.specs.declared.parse_end.ParseEnd.TheVariants.{Fault, NoMemory}
 use Rattle.kernel_parser.specs.NameFaults.{NameFault}
-use Rattle.word_grammar.specs.Readers.{first}
+use Rattle.token_grammar.specs.Readers.{first}
 use Rattle.kernel_parser.specs.Names.{Known, known_in}
 
 -- the declarations of a table, in order

@@ -3,7 +3,7 @@ use Rattle.std.specs.Prelude.{◌≡◌, ◌⊎◌, ℕ, List}
 use Rattle.kernel_ast.specs.KernelParts.{KernelParts}
 use Rattle.kernel_ast.specs.WellFormed.{IsWellFormed}
 use Rattle.kernel_lexer.specs.declared.token.Token.{Token}
-use Rattle.kernel_parser.specs.declared.raw.RawKernel.{RawKernel}
+use Rattle.kernel_syntax.specs.declared.raw.RawKernel.{RawKernel}
 use Rattle.kernel_parser.specs.KernelTexts.{IsWritten, Reads, IsFaultOfText}
 use Rattle.kernel_parser.specs.NameOrder.{AreInOrder}
 use Rattle.kernel_parser.specs.Names.{name_faults}

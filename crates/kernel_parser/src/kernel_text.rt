@@ -18,11 +18,11 @@ ghost use Rattle.kernel_parser.specs.KernelTexts.{Reads, IsFaultOfText, EndMeans
 
 use crate::names::resolve;
 use crate::parse_end::ParseEnd;
-use crate::syntax::{SyntaxEnd, tree_of};
 use kernel_ast::Kernel;
 use kernel_lexer::{LexEnd, tokens};
+use kernel_syntax::syntax::{SyntaxEnd, tree_of};
 use std::alloc::Global;
-use word_grammar::fault::GrammarFault;
+use token_grammar::fault::GrammarFault;
 
 /// The code of a text that is too long.
 const TOO_LONG: u8 = 15;

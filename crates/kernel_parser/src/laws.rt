@@ -1,16 +1,5 @@
-//! Laws of the grammar and of texts. A call does nothing: its contract is the law.
-ghost use Rattle.kernel_parser.specs.Laws.{OneReading, MoreLevels, OneFault, NeverBoth, ReadingOrFault};
+//! Laws of texts. A call does nothing: its contract is the law.
 ghost use Rattle.kernel_parser.specs.TextLaws.{OneKernel, OneTextFault, KernelWithoutFault, KernelOrFault, KernelsAreWellFormed, NameFaultsInOrder};
-
-/// Each list of tokens has exactly one of two: a reading within the limit, the only one of any number of levels, or a first fault,
-/// the only one.
-pub fn one_answer()
-    ensures reading { OneReading }
-    ensures levels { MoreLevels }
-    ensures fault { OneFault }
-    ensures apart { NeverBoth }
-    ensures always { ReadingOrFault }
-{}
 
 /// Each text has exactly one of two: a kernel that it stands for, the only one, or a first fault, the only one. The kernel is well
 /// formed. The first fault of the names is the one with the least place; at one name unknown stands before not writable, and that before

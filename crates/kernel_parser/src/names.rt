@@ -34,9 +34,9 @@ use crate::names::declare::declare_all;
 use crate::names::lookup::word;
 use crate::names::scope::Table;
 use crate::parse_end::ParseEnd;
-use crate::raw::RawKernel;
 use comp_graph::label::Label;
 use kernel_ast::Kernel;
+use kernel_syntax::raw::RawKernel;
 use std::alloc::Global;
 
 /// The kernel of a tree whose names stand as stretches of the text.

@@ -10,8 +10,6 @@ pub mod index;
 pub mod numbers;
 pub mod place;
 pub mod stop;
-#[cfg(test)]
-mod tests;
 pub mod walking;
 pub mod written;
 

@@ -17,8 +17,6 @@
 pub mod laws;
 pub mod lines;
 pub mod numbers;
-#[cfg(test)]
-mod tests;
 pub mod words;
 
 pub use lines::{is_comment, next_line};

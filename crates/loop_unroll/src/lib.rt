@@ -11,8 +11,6 @@ pub mod flat;
 pub mod laws;
 mod progress;
 mod right_side;
-#[cfg(test)]
-mod tests;
 
 pub use execution::unroll;
 pub use flat::{Flat, Flats, Item, ShapeEnd};

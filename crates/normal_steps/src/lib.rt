@@ -7,8 +7,6 @@ pub mod legal_steps;
 pub mod plan;
 pub mod step;
 pub mod stepping;
-#[cfg(test)]
-mod tests;
 
 pub use legal_steps::Steps;
 pub use plan::Plan;

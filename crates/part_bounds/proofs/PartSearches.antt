@@ -26,7 +26,6 @@ use Rattle.search_laws.specs.Search.{searched}
 use Rattle.search_laws.specs.SearchLaws.{IsNoWorse, PlanIsNoWorse}
 use Rattle.branch_bound.specs.declared.searching.Found.{Found}
 use Rattle.branch_bound.specs.Founds.{IsSearchedTable, IsFound}
-use Rattle.branch_bound.proofs.FoundLaws.{found_in_range}
 use Rattle.part_bounds.specs.declared.searching.PartBound.{PartBound}
 use Rattle.part_bounds.specs.Parts.{part, part_game, ArePartSets}
 use Rattle.part_bounds.specs.Laws.{IsBound}
@@ -50,8 +49,8 @@ module _ (no_worse : PlanIsNoWorse) (first : PlanParts) (is : IsGame first.game)
       plan.costs ∙ ap (λ game. total_cost (game_of game) (start (game_of game)) found.plan.steps) at.game
       ∙ ap (total_cost g (start g)) at.steps ∙ better.costs
 
-  pub part_bound_is : (total : ℕ) → total ≡ found.plan.total → budget ≤ 150000 → IsPartBound g budget (record { cost = total; table = found.table })
-  part_bound_is total e most = record {
+  pub part_bound_is : (total : ℕ) → total ≡ found.plan.total → IsPartBound g budget (record { cost = total; table = found.table })
+  part_bound_is total e = record {
     searched_cost = e ∙ costs ∙ ap (λ ss. (searched g ss budget).cost) steps;
     no_more =
         let less = at.no_more in
@@ -62,7 +61,7 @@ module _ (no_worse : PlanIsNoWorse) (first : PlanParts) (is : IsGame first.game)
         let played = plans_are_pebblings g (IsDag-dag_of first.game.graph is.valid) (searched g first.steps budget).plan better.finishing in
         (play_moves g (start g) (searched g first.steps budget).plan, played.complete, played.costs ∙ better.costs ∙ sym costs ∙ sym e);
     table = subst (λ ss. IsSearchedTable g ss budget total found.table) steps (subst (λ cost. IsSearchedTable g first.steps budget cost found.table) (sym e) at.table);
-    in_range = found_in_range first is budget most found at;
+    in_range = at.in_range;
   }
 
 -- ---- one part after another

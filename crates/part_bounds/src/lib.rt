@@ -6,8 +6,6 @@ pub mod inducing;
 pub mod laws;
 pub mod parts;
 pub mod searching;
-#[cfg(test)]
-mod tests;
 
 pub use inducing::induced;
 pub use parts::part_of;

@@ -1,9 +1,12 @@
 -- What takes leave of the input.
-use Rattle.std.proofs.Common.{◌≡◌, ◌∙◌, ℕ, List, [], Option, Some, None, refl, sym, ap, subst}
+use Rattle.std.proofs.Common.{◌≡◌, ◌∙◌, ℕ, ◌≤◌, length, arith, List, [], Option, Some, None, refl, sym, ap, subst}
 use Rattle.std.proofs.lemmas.List.{append-nil}
 use Rattle.std.specs.Io.KnownBytes.{prepend_known}
-use Rattle.desk_io.specs.Known.{Tells, input_end}
-use Rattle.pebble_cli.specs.Faults.{LeavesRest}
+use Rattle.desk_io.specs.Known.{Tells, TookAtMost, input_end}
+use Rattle.command_words.specs.declared.commands.Command.{Command}
+use Rattle.command_words.specs.declared.commands.Subject.{Subject}
+use Rattle.command_words.specs.Commands.{subject}
+use Rattle.pebble_cli.specs.Faults.{LeavesRest, subject_limit, input_limit}
 
 -- an input that was read to its end is all that was taken
 all_taken : (known : Option (List ℕ)) (text : List ℕ) → Tells known text → known ≡ prepend_known text (input_end known)
@@ -24,3 +27,20 @@ idle_leaves known now same = subst (λ n. LeavesRest known n) (sym same) ([], no
 -- what is left stays where nothing more is taken
 pub still_leaves : (known mid now : Option (List ℕ)) → now ≡ mid → LeavesRest known mid → LeavesRest known now
 still_leaves known mid now same rest = subst (λ n. LeavesRest known n) (sym same) rest
+
+-- ---- how much was taken
+
+-- of an input that was read to its end within a limit at most so many bytes were taken
+pub whole_within : (known mid now : Option (List ℕ)) (text : List ℕ) (limit : ℕ) → Tells known text → length text ≤ limit → mid ≡ input_end known → now ≡ mid
+    → TookAtMost known now limit
+whole_within known mid now text limit told short end same =
+    subst (λ n. TookAtMost known n limit) (sym (same ∙ end)) (text, short, all_taken known text told)
+
+-- of an input that stays nothing was taken
+pub idle_within : (known now : Option (List ℕ)) (limit : ℕ) → now ≡ known → TookAtMost known now limit
+idle_within known now limit same = subst (λ n. TookAtMost known n limit) (sym same) ([], omega arith, none_taken known)
+
+-- the limit of a command's subject is the command's
+pub subject_within : (command : Command) (known now : Option (List ℕ)) (is : Subject) → subject command ≡ is → TookAtMost known now (subject_limit is)
+    → TookAtMost known now (input_limit (Some command))
+subject_within command known now is same took = subst (λ s. TookAtMost known now (subject_limit s)) (sym same) took

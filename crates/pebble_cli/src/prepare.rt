@@ -5,7 +5,7 @@ ghost use Rattle.comp_graph.specs.Games.{AreWeights};
 ghost use Rattle.comp_graph.specs.Graphs.{dag_of};
 ghost use Rattle.desk_io.specs.declared.desk.Kind.{Kind};
 ghost use Rattle.desk_io.specs.Counts.{Rose};
-ghost use Rattle.desk_io.specs.Known.{input_end};
+ghost use Rattle.desk_io.specs.Known.{TookAtMost, input_end};
 ghost use Rattle.kernel_ast.specs.KernelParts.{KernelParts};
 ghost use Rattle.scratch_machine.specs.Codes.{CodeParts};
 ghost use Rattle.command_words.specs.declared.commands.Subject.{Subject};
@@ -22,7 +22,7 @@ ghost use Rattle.command_answers.specs.Status.{IsOfRead};
 ghost use Rattle.command_answers.specs.Subjects.{kernel_text};
 ghost use Rattle.pebble_cli.specs.Answers.{Answers, LastAnswers, IsAdmitted};
 ghost use Rattle.pebble_cli.specs.Deliver.{SameWriteFaults};
-ghost use Rattle.pebble_cli.specs.Faults.{ReadCause, SameTakeFaults, LeavesRest};
+ghost use Rattle.pebble_cli.specs.Faults.{ReadCause, SameTakeFaults, LeavesRest, input_limit};
 ghost use Rattle.pebble_cli.specs.InputAnswers.{AnswersInput};
 
 use crate::reading::{code_input, file_bytes, kernel_input};
@@ -239,6 +239,8 @@ fn command_answer<D: Desk>(
     ensures answers { IfAnswer result (AnswersInput (Some command) (D.input desk.old) (D.file desk.old)) }
     ensures fault { result ≡ Err EarlyEnd.ReadFault →
         ReadCause (Some command) (D.input desk.old) (D.faults desk.old) (D.faults desk.new) }
+    ensures early { result ≡ Err EarlyEnd.ReadFault →
+        TookAtMost (D.input desk.old) (D.input desk.new) (input_limit (Some command)) }
     ensures read_whole { reads_input (Some command) ≡ true →
         IfAnswer result (λ answer. IsOfRead answer.status → D.input desk.new ≡ input_end (D.input desk.old)) }
     ensures untouched { reads_input (Some command) ≡ false → D.input desk.new ≡ D.input desk.old }
@@ -274,6 +276,8 @@ pub fn prepare<D: Desk>(alloc: Global, words: &[String], desk: &mut D) -> Result
     ensures answers { IfOk result (AnswersInput (asked_by words.now) (D.input desk.old) (D.file desk.old)) }
     ensures refusal { IfErr result (λ status. (status ≡ Status.NoMemory) ⊎ ((status ≡ Status.ReadFault)
         × ReadCause (asked_by words.now) (D.input desk.old) (D.faults desk.old) (D.faults desk.new))) }
+    ensures early { result ≡ Err Status.ReadFault →
+        TookAtMost (D.input desk.old) (D.input desk.new) (input_limit (asked_by words.now)) }
     ensures read_whole { reads_input (asked_by words.now) ≡ true →
         IfOk result (λ answer. IsOfRead answer.status → D.input desk.new ≡ input_end (D.input desk.old)) }
     ensures untouched { reads_input (asked_by words.now) ≡ false → D.input desk.new ≡ D.input desk.old }

@@ -2,7 +2,7 @@
 ghost use Rattle.std.specs.Prelude.{◌≡◌, ◌≢◌, ◌≤◌, ℕ, List, IfOk, OnOk, Err, length};
 ghost use Rattle.desk_io.specs.declared.desk.Kind.{Kind};
 ghost use Rattle.desk_io.specs.Counts.{Rose};
-ghost use Rattle.desk_io.specs.Known.{Tells, input_end};
+ghost use Rattle.desk_io.specs.Known.{Tells, TookAtMost, input_end};
 ghost use Rattle.command_answers.specs.CodeInputs.{IsNoCode};
 ghost use Rattle.command_answers.specs.MadeAnswers.{Meets, IfRefused, IsFileOf};
 ghost use Rattle.pebble_cli.specs.Deliver.{SameWriteFaults};
@@ -26,16 +26,19 @@ const CODE_LIMIT: u32 = 20_000_000;
 ///
 /// # Errors
 ///
-/// [`EarlyEnd::Refused`] with the fault of a text of more than 65,536 bytes, which is not read further than it takes to see this.
-/// [`EarlyEnd::ReadFault`] where a take failed, and [`EarlyEnd::NoMemory`].
+/// [`EarlyEnd::Refused`] with the fault of a text of more than 65,536 bytes, which is read past them by at most one piece of 4,096 bytes.
+/// [`EarlyEnd::ReadFault`] where a take failed before more than 65,536 bytes were taken, and [`EarlyEnd::NoMemory`].
 pub fn kernel_input<D: Desk>(alloc: Global, desk: &mut D) -> Result<Vec<u8>, EarlyEnd>
     ensures told { IfOk result (λ text. Tells (D.input desk.old) text.items) }
+    ensures short { IfOk result (λ text. length text.items ≤ 65536) }
     ensures whole { OnOk result (D.input desk.new ≡ input_end (D.input desk.old)) }
     ensures rest_left { LeavesRest (D.input desk.old) (D.input desk.new) }
     ensures refused { IfRefused result (λ answer.
         (text : List ℕ) × Tells (D.input desk.old) text × Meets (IsFaulty text) answer) }
     ensures fault { result ≡ Err EarlyEnd.ReadFault →
         Rose (D.faults desk.old Kind.TakeInput) (D.faults desk.new Kind.TakeInput) }
+    ensures early { result ≡ Err EarlyEnd.ReadFault →
+        TookAtMost (D.input desk.old) (D.input desk.new) 65536 }
     ensures same_takes { D.faults desk.new Kind.TakeFile ≡ D.faults desk.old Kind.TakeFile }
     ensures no_vain_take { result ≢ Err EarlyEnd.ReadFault → SameTakeFaults (D.faults desk.old) (D.faults desk.new) }
     ensures write_faults { SameWriteFaults (D.faults desk.old) (D.faults desk.new) }
@@ -59,8 +62,8 @@ pub fn kernel_input<D: Desk>(alloc: Global, desk: &mut D) -> Result<Vec<u8>, Ear
 ///
 /// # Errors
 ///
-/// [`EarlyEnd::Refused`] with the line 0 for a text of more than 20,000,000 bytes, which is not read further than it takes to see this.
-/// [`EarlyEnd::ReadFault`] where a take failed, and [`EarlyEnd::NoMemory`].
+/// [`EarlyEnd::Refused`] with the line 0 for a text of more than 20,000,000 bytes, which is read past them by at most one piece of 4,096 bytes.
+/// [`EarlyEnd::ReadFault`] where a take failed before more than 20,000,000 bytes were taken, and [`EarlyEnd::NoMemory`].
 pub fn code_input<D: Desk>(alloc: Global, desk: &mut D) -> Result<Vec<u8>, EarlyEnd>
     ensures told { IfOk result (λ text. Tells (D.input desk.old) text.items) }
     ensures short { IfOk result (λ text. length text.items ≤ 20000000) }
@@ -70,6 +73,8 @@ pub fn code_input<D: Desk>(alloc: Global, desk: &mut D) -> Result<Vec<u8>, Early
         (text : List ℕ) × Tells (D.input desk.old) text × Meets (IsNoCode text) answer) }
     ensures fault { result ≡ Err EarlyEnd.ReadFault →
         Rose (D.faults desk.old Kind.TakeInput) (D.faults desk.new Kind.TakeInput) }
+    ensures early { result ≡ Err EarlyEnd.ReadFault →
+        TookAtMost (D.input desk.old) (D.input desk.new) 20000000 }
     ensures same_takes { D.faults desk.new Kind.TakeFile ≡ D.faults desk.old Kind.TakeFile }
     ensures no_vain_take { result ≢ Err EarlyEnd.ReadFault → SameTakeFaults (D.faults desk.old) (D.faults desk.new) }
     ensures write_faults { SameWriteFaults (D.faults desk.old) (D.faults desk.new) }

@@ -4,7 +4,7 @@ ghost use Rattle.std.specs.declared.option.Option.{Option};
 ghost use Rattle.std.specs.Io.KnownBytes.{append_known};
 ghost use Rattle.desk_io.specs.declared.desk.Kind.{Kind};
 ghost use Rattle.desk_io.specs.Counts.{Rose};
-ghost use Rattle.desk_io.specs.Known.{Tells, file_of, input_end};
+ghost use Rattle.desk_io.specs.Known.{Tells, TookAtMost, file_of, input_end};
 ghost use Rattle.command_words.specs.declared.commands.Command.{Command};
 ghost use Rattle.command_words.specs.declared.commands.Command.TheVariants.{Plan};
 ghost use Rattle.command_words.specs.declared.commands.Planning.{Planning};
@@ -12,7 +12,7 @@ ghost use Rattle.command_answers.specs.declared.status.Status.{Status};
 ghost use Rattle.pebble_cli.specs.Answers.{Answers, LastAnswers, IsAdmitted};
 ghost use Rattle.command_words.specs.Commands.{reads_input, reads_file, writes_file};
 ghost use Rattle.pebble_cli.specs.Deliver.{Delivered, CutShort, SameWriteFaults};
-ghost use Rattle.pebble_cli.specs.Faults.{ReadCause, SameTakeFaults, LeavesRest, IsFileTold};
+ghost use Rattle.pebble_cli.specs.Faults.{ReadCause, SameTakeFaults, LeavesRest, IsFileTold, input_limit};
 ghost use Rattle.command_answers.specs.PlanAnswers.{IsPlanned};
 ghost use Rattle.command_answers.specs.Status.{IsOfRead, IsYielded, is_last};
 ghost use Rattle.command_words.specs.Words.{asked_by, file_named_by};
@@ -70,6 +70,10 @@ pub fn pebble<D: Desk>(alloc: Global, words: &[String], desk: &mut D) -> Status
     // A take failed that the command makes.
     ensures read_fault { result ≡ Status.ReadFault →
         ReadCause (asked_by words.now) (D.input desk.old) (D.faults desk.old) (D.faults desk.new) }
+
+    // It failed before the input was known to be too long: at most as many bytes were taken as a kernel may have, 65,536, or a code, 20,000,000.
+    ensures read_early { result ≡ Status.ReadFault →
+        TookAtMost (D.input desk.old) (D.input desk.new) (input_limit (asked_by words.now)) }
 
     // A file that is missing, where the command comes to read it, is a read fault.
     ensures missing { (asked : Command) (text : List ℕ) → asked_by words.now ≡ Some asked →

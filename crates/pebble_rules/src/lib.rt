@@ -9,8 +9,6 @@ pub mod moving;
 pub mod position;
 pub mod refusal;
 pub mod replaying;
-#[cfg(test)]
-mod tests;
 
 pub use moves::Move;
 pub use moving::{apply, moved};

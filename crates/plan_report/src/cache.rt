@@ -1,12 +1,13 @@
 //! The text of a cache beside a plan.
-ghost use Rattle.std.specs.Prelude.{◌≡◌, ◌++◌, ◌∷◌, [], OnOk, IfOk};
+ghost use Rattle.std.specs.Prelude.{◌≡◌, IfOk};
 ghost use Rattle.plan_report.specs.CacheText as spec;
 
+use crate::fact_line::{add_cost, add_fact};
 use comp_graph::NoMemory;
 use std::alloc::Global;
 
 /// What is printed of a cache, and of a plan of the same game.
-#[derive(Clone, Copy, Debug, PartialEq, Eq)]
+#[derive(Clone, Copy)]
 pub struct CacheFacts {
     /// How often the cache loads a vertex.
     pub loads: u32,
@@ -28,28 +29,10 @@ pub fn cache_text(alloc: Global, facts: &CacheFacts) -> Result<Vec<u8>, NoMemory
     ensures { IfOk result (λ text. text.items ≡ spec.cache_text facts.now) }
 {
     let mut text = Vec::new(alloc);
-    add_count(alloc, &mut text, "loads", facts.loads)?;
-    add_count(alloc, &mut text, "stores", facts.stores)?;
-    add_count(alloc, &mut text, "hits", facts.hits)?;
-    add_count(alloc, &mut text, "cost", facts.cost)?;
-    add_plan(alloc, &mut text, facts.plan_cost, facts.bound)?;
+    add_fact(alloc, &mut text, "cache loads", facts.loads)?;
+    add_fact(alloc, &mut text, "cache stores", facts.stores)?;
+    add_fact(alloc, &mut text, "cache hits", facts.hits)?;
+    add_fact(alloc, &mut text, "cache cost", facts.cost)?;
+    add_cost(alloc, &mut text, "plan cost", facts.plan_cost, facts.bound)?;
     Ok(text)
-}
-
-// Adds the line of a number of the cache.
-fn add_count(alloc: Global, text: &mut Vec<u8>, name: &str, number: u32) -> Result<(), NoMemory>
-    ensures { OnOk result (text.new.items ≡ text.old.items ++ (spec.cache_line name.now number ++ 10 ∷ [])) }
-{
-    let line = format!(in alloc; "cache {name} {number}\n")?;
-    text.extend_from_slice(line.as_bytes())?;
-    Ok(())
-}
-
-// Adds the line of the cost of the plan and the bound.
-fn add_plan(alloc: Global, text: &mut Vec<u8>, cost: u32, bound: u32) -> Result<(), NoMemory>
-    ensures { OnOk result (text.new.items ≡ text.old.items ++ (spec.plan_line cost bound ++ 10 ∷ [])) }
-{
-    let line = format!(in alloc; "plan cost {cost} bound {bound}\n")?;
-    text.extend_from_slice(line.as_bytes())?;
-    Ok(())
 }

@@ -9,7 +9,7 @@ use std::alloc::Global;
 
 /// What a report says of a plan. The costs and the bound count the loads and the stores between the slow and the fast memory, each by its
 /// weight.
-#[derive(Clone, Copy, Debug, PartialEq, Eq)]
+#[derive(Clone, Copy)]
 pub struct Facts {
     /// The number of vertices of the graph.
     pub vertices: u16,

@@ -6,12 +6,11 @@
 #![tactic(auto)]
 
 mod cache;
+mod fact_line;
 mod facts;
 mod graph;
 mod outputs;
 mod parts;
-#[cfg(test)]
-mod tests;
 mod trial;
 
 pub use cache::{CacheFacts, cache_text};

@@ -9,7 +9,7 @@ use comp_graph::NoMemory;
 use std::alloc::Global;
 
 /// What is printed of a part.
-#[derive(Clone, Copy, Debug, PartialEq, Eq)]
+#[derive(Clone, Copy)]
 pub struct PartFacts {
     /// The number of its vertices.
     pub vertices: u16,

@@ -2,6 +2,7 @@
 ghost use Rattle.std.specs.Prelude.{◌≡◌, ◌++◌, ◌∷◌, [], OnOk, IfOk};
 ghost use Rattle.plan_report.specs.TrialText as spec;
 
+use crate::fact_line::{add_cost, add_fact};
 use crate::facts::{Facts, verdict_word};
 use comp_graph::NoMemory;
 use std::alloc::Global;
@@ -15,27 +16,9 @@ pub fn trial_text(alloc: Global, n: u32, facts: &Facts) -> Result<Vec<u8>, NoMem
     add_fact(alloc, &mut text, "trial", n)?;
     add_fact(alloc, &mut text, "vertices", u32::from(facts.vertices))?;
     add_fact(alloc, &mut text, "first", facts.first)?;
-    add_cost(alloc, &mut text, facts.cost, facts.bound)?;
+    add_cost(alloc, &mut text, "cost", facts.cost, facts.bound)?;
     add_verdict(alloc, &mut text, facts.expanded, facts.optimal)?;
     Ok(text)
-}
-
-// Adds the line of a fact whose value is a number.
-fn add_fact(alloc: Global, text: &mut Vec<u8>, name: &str, number: u32) -> Result<(), NoMemory>
-    ensures { OnOk result (text.new.items ≡ text.old.items ++ (spec.fact name.now number ++ 10 ∷ [])) }
-{
-    let line = format!(in alloc; "{name} {number}\n")?;
-    text.extend_from_slice(line.as_bytes())?;
-    Ok(())
-}
-
-// Adds the line of the cost and the bound.
-fn add_cost(alloc: Global, text: &mut Vec<u8>, cost: u32, bound: u32) -> Result<(), NoMemory>
-    ensures { OnOk result (text.new.items ≡ text.old.items ++ (spec.cost_line cost bound ++ 10 ∷ [])) }
-{
-    let line = format!(in alloc; "cost {cost} bound {bound}\n")?;
-    text.extend_from_slice(line.as_bytes())?;
-    Ok(())
 }
 
 // Adds the line of the number of expanded positions and the verdict.

@@ -14,8 +14,6 @@ mod follower;
 pub mod judging;
 pub mod laws;
 pub mod reading;
-#[cfg(test)]
-mod tests;
 pub mod tidying;
 
 pub use judging::{PlayFault, judge};

@@ -5,7 +5,5 @@
 mod index;
 pub mod rows;
 mod store;
-#[cfg(test)]
-mod tests;
 
 pub use rows::{Head, Rows};

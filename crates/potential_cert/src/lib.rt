@@ -8,8 +8,6 @@ pub mod reading;
 pub mod row_search;
 pub mod supporting;
 pub mod tables;
-#[cfg(test)]
-mod tests;
 pub mod writing;
 
 pub use end::TableEnd;

@@ -1,5 +1,5 @@
 -- The first word of a line tells its kind.
-use Rattle.std.proofs.Common.{◌≡◌, ℕ, false, cond, List, [], ◌∷◌, ◌++◌, Option, Some, None, refl, sym, ap, ◌∙◌}
+use Rattle.std.proofs.Common.{◌≡◌, ℕ, zero, suc, ◌+◌, ◌<◌, length, drop, get_or, arith, false, cond, List, [], ◌∷◌, ◌++◌, Option, Some, None, refl, sym, ap, ◌∙◌}
 use Rattle.std.specs.Str.{bytes_eq}
 use Rattle.comp_graph.specs.declared.operation.Op.TheVariants.{Input, Set, Add, Sub, Mul, And, Or, Xor, Neg, Min, Max, Sel, Mad}
 use Rattle.line_texts.specs.Lines.{is_comment}
@@ -40,6 +40,15 @@ kind_found (Apply Min) ok = refl
 kind_found (Apply Max) ok = refl
 kind_found (Apply Sel) ok = refl
 kind_found (Apply Mad) ok = refl
+
+passed_one : (word : List ℕ) (kinds : List Kind) (n : ℕ) → n < length kinds → bytes_eq word (word_of_kind (get_or kinds n Slots)) ≡ false → found word (drop (suc n) kinds) ≡ found word (drop n kinds)
+passed_one word [] n h e = absurd (omega arith)
+passed_one word (k ∷ ks) zero h e = sym (ap (λ b. cond b (Some k) (found word ks)) e)
+passed_one word (k ∷ ks) (suc n) h e = passed_one word ks n (omega arith) e
+
+-- a kind whose word is another is passed over
+pub passed_over : (word : List ℕ) (kinds : List Kind) (n : ℕ) → n < length kinds → bytes_eq word (word_of_kind (get_or kinds n Slots)) ≡ false → found word (drop (n + 1) kinds) ≡ found word (drop n kinds)
+passed_over word kinds n h e = let next : n + 1 ≡ suc n = omega arith in ap (λ k. found word (drop k kinds)) next ∙ passed_one word kinds n h e
 
 some_same : (k j : Kind) → Some k ≡ Some j → k ≡ j
 some_same k j e = cc

@@ -9,3 +9,4 @@ pub mod Reader
 pub mod Constants
 pub mod Guesses
 pub mod Decided
+pub mod Written

@@ -30,12 +30,15 @@ line_of_input label = line (codes "in") (label ∷ [])
 abbrev pub line_of_output : OutWord → List ℕ
 line_of_output o = line (codes "out") (o.label ∷ decimal o.word ∷ [])
 
+-- the lines of the numbers of slots and words
+abbrev pub head_lines : ℕ → ℕ → List (List ℕ)
+head_lines slots words = line (codes "slots") (decimal slots ∷ []) ∷ line (codes "words") (decimal words ∷ []) ∷ []
+
 -- the lines of a code: the numbers of slots and words, the inputs, the outputs, the instructions, and `end`
 abbrev pub lines_of_code : CodeParts → List (List ℕ)
 lines_of_code c =
-    line (codes "slots") (decimal c.slots ∷ [])
-    ∷ line (codes "words") (decimal c.words ∷ [])
-    ∷ (map line_of_input c.inputs ++ (map line_of_output c.outputs ++ (map line_of_instr c.instructions ++ codes "end" ∷ [])))
+    head_lines c.slots c.words
+    ++ (map line_of_input c.inputs ++ (map line_of_output c.outputs ++ (map line_of_instr c.instructions ++ codes "end" ∷ [])))
 
 -- the text of a code
 abbrev pub code_text : CodeParts → List ℕ

@@ -1,12 +1,13 @@
 //! Writes the text of a code.
 ghost use Rattle.std.specs.Prelude.{◌≡◌, ◌≤◌, ◌++◌, ◌∷◌, [], length, map, take, OnOk, IfOk, string_bytes};
+ghost use Rattle.std.specs.Fmt.{decimal};
 ghost use Rattle.comp_graph.specs.Operations.{arity_of};
 ghost use Rattle.scratch_machine.specs.declared.code.Instr.TheVariants.{Apply};
-ghost use Rattle.line_texts.specs.Words.{after_spaces};
+ghost use Rattle.line_texts.specs.Words.{after_spaces, line};
 ghost use Rattle.line_texts.specs.Lines.{ended};
 ghost use Rattle.std.specs.List.{All};
 ghost use Rattle.scratch_code.specs.CodeTexts.{HasSmallConstant, HasSmallConstants, WritesSmallConstants};
-ghost use Rattle.scratch_code.specs.CodeText.{operand_text, line_of_instr, line_of_input, line_of_output, code_text};
+ghost use Rattle.scratch_code.specs.CodeText.{operand_text, head_lines, line_of_instr, line_of_input, line_of_output, code_text};
 
 use comp_graph::{Label, NoMemory, Op};
 use scratch_machine::{Code, Instr, OutWord, Source};
@@ -24,21 +25,51 @@ pub fn write_code(alloc: Global, code: &Code) -> Result<Vec<u8>, NoMemory>
     ensures text { IfOk result (λ text. text.items ≡ code_text code.now) }
     ensures constants { OnOk result (All HasSmallConstants code.now.instructions) }
 {
-    let slots = code.slots();
-    let words = code.words();
-    let head = format!(in alloc; "slots {slots}\nwords {words}\n")?;
-    let mut text = Vec::from_slice(alloc, head.as_bytes())?;
-    for label in code.inputs() {
-        add_input(&mut text, label)?;
-    }
-    for output in code.outputs() {
-        add_output(alloc, &mut text, output)?;
-    }
-    for instr in code.instructions() {
-        add_instr(alloc, &mut text, instr)?;
-    }
+    let mut text = head(alloc, code.slots(), code.words())?;
+    add_inputs(&mut text, code.inputs())?;
+    add_outputs(alloc, &mut text, code.outputs())?;
+    add_instrs(alloc, &mut text, code.instructions())?;
     text.extend_from_slice(b"end\n")?;
     Ok(text)
+}
+
+// The lines of the numbers of slots and words.
+fn head(alloc: Global, slots: u16, words: u16) -> Result<Vec<u8>, NoMemory>
+    ensures { IfOk result (λ text. text.items ≡ ended (head_lines slots words)) }
+{
+    let lines = format!(in alloc; "slots {slots}\nwords {words}\n")?;
+    Ok(Vec::from_slice(alloc, lines.as_bytes())?)
+}
+
+// Adds the lines of the inputs.
+fn add_inputs(text: &mut Vec<u8>, labels: &[Label]) -> Result<(), NoMemory>
+    ensures { OnOk result (text.new.items ≡ text.old.items ++ ended (map line_of_input labels.now)) }
+{
+    for label in labels {
+        add_input(text, label)?;
+    }
+    Ok(())
+}
+
+// Adds the lines of the outputs.
+fn add_outputs(alloc: Global, text: &mut Vec<u8>, outputs: &[OutWord]) -> Result<(), NoMemory>
+    ensures { OnOk result (text.new.items ≡ text.old.items ++ ended (map line_of_output outputs.now)) }
+{
+    for output in outputs {
+        add_output(alloc, text, output)?;
+    }
+    Ok(())
+}
+
+// Adds the lines of the instructions.
+fn add_instrs(alloc: Global, text: &mut Vec<u8>, instrs: &[Instr]) -> Result<(), NoMemory>
+    ensures text { OnOk result (text.new.items ≡ text.old.items ++ ended (map line_of_instr instrs.now)) }
+    ensures constants { OnOk result (All WritesSmallConstants instrs.now) }
+{
+    for instr in instrs {
+        add_instr(alloc, text, instr)?;
+    }
+    Ok(())
 }
 
 // Adds the line of an input.
@@ -69,16 +100,25 @@ fn add_instr(alloc: Global, text: &mut Vec<u8>, instr: &Instr) -> Result<(), NoM
     ensures constants { OnOk result (WritesSmallConstants instr.now) }
 {
     match *instr {
-        Instr::Load { slot, word } => {
-            let line = format!(in alloc; "load {slot} {word}\n")?;
-            text.extend_from_slice(line.as_bytes())?;
-        }
-        Instr::Store { slot, word } => {
-            let line = format!(in alloc; "store {slot} {word}\n")?;
-            text.extend_from_slice(line.as_bytes())?;
-        }
+        Instr::Load { slot, word } => add_transfer(alloc, text, "load", slot, word)?,
+        Instr::Store { slot, word } => add_transfer(alloc, text, "store", slot, word)?,
         Instr::Apply { op, slot, args } => add_operation(alloc, text, op, slot, args)?,
     }
+    Ok(())
+}
+
+// Adds the line of a load or a store.
+fn add_transfer(
+    alloc: Global,
+    text: &mut Vec<u8>,
+    name: &str,
+    slot: u16,
+    word: u16,
+) -> Result<(), NoMemory>
+    ensures { OnOk result (text.new.items ≡ text.old.items ++ (line name.now (decimal slot ∷ decimal word ∷ []) ++ 10 ∷ [])) }
+{
+    let line = format!(in alloc; "{name} {slot} {word}\n")?;
+    text.extend_from_slice(line.as_bytes())?;
     Ok(())
 }
 

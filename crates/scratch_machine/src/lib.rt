@@ -5,8 +5,6 @@
 pub mod code;
 pub mod laws;
 pub mod machine;
-#[cfg(test)]
-mod tests;
 
 pub use code::{Code, Instr, OutWord, Source};
 pub use machine::{ExecEnd, Ran, exec};

@@ -6,7 +6,5 @@ pub mod code;
 mod emitter;
 pub mod laws;
 pub mod moves;
-#[cfg(test)]
-mod tests;
 
 pub use code::emit;

@@ -17,8 +17,6 @@ mod inputs;
 mod outputs;
 pub mod run_end;
 pub mod running;
-#[cfg(test)]
-mod tests;
 mod value;
 
 pub use run_end::RunEnd;

@@ -6,3 +6,5 @@ pub mod KernelRuns
 pub mod Pictured
 pub mod ElementsLeft
 pub mod SmallConstants
+pub mod FaultCodes
+pub mod EachLoops

@@ -1,7 +1,6 @@
 -- The constants of a well-formed kernel's graph have 64 bits: by the tree, for the origins of all that elements hold.
-use Rattle.std.proofs.Common.{◌≡◌, ◌+◌, ◌++◌, ◌<◌, ◌≤◌, ◌^◌, if◌then◌else◌, ℕ, zero, suc, ℤ, pos, negsuc, ◌+ℤ◌, ◌-ℤ◌, ◌<ℤ◌, ◌≤ℤ◌, nat_lt, nat_le, nat_eq, Bool, true, false, cond, ◌&&◌, ◌==◌, List, [], ◌∷◌, map, length, refl, sym, ap, subst, ◌∙◌, Option, Some, None, Result, Ok, Err, slice_index_or, FitsSigned, neg_ℤ, arith}
+use Rattle.std.proofs.Common.{◌≡◌, ◌++◌, if◌then◌else◌, ℕ, zero, suc, ℤ, pos, negsuc, ◌+ℤ◌, ◌-ℤ◌, ◌≤ℤ◌, nat_lt, nat_le, Bool, true, false, cond, ◌&&◌, ◌==◌, List, [], ◌∷◌, map, length, refl, sym, ap, subst, ◌∙◌, Option, Some, None, Result, Ok, Err, slice_index_or, FitsSigned, neg_ℤ, arith}
 use Rattle.std.specs.Int.{w64}
-use Rattle.std.specs.Int.Signed.{mag}
 use Rattle.std.specs.List.{All}
 use Rattle.std.specs.Prelude.{⊤, int_lt, int_le}
 use Rattle.std.specs.Int.Bits.{and_lt}
@@ -14,7 +13,6 @@ use Rattle.comp_graph.specs.declared.operation.Op.{Op}
 use Rattle.comp_graph.specs.declared.operation.Op.TheVariants as op
 use Rattle.comp_graph.specs.declared.node.Operand.{Operand}
 use Rattle.comp_graph.specs.declared.node.Operand.TheVariants.{Vertex, Const}
-use Rattle.comp_graph.specs.declared.node.Node.{Node}
 use Rattle.comp_graph.specs.Graphs.{GraphParts}
 use Rattle.comp_graph.specs.Operations.{value_of, arity_of}
 use Rattle.kernel_ast.specs.declared.tree.Index.{Index}
@@ -40,12 +38,12 @@ use Rattle.kernel_ast.specs.Places.{located, loop_numbers, condition, turn, is_s
 use Rattle.kernel_ast.specs.Walk.{all_at}
 use Rattle.kernel_ast.specs.Machine.{Run, Elements, State, Execution, unset, output_unset, read_option, chain, arguments, expr_step, link_step, evaluate, assign, one_pass, stmt_step, execute, execute_all, enter, held, leave, cells_of, no_elements, run_all, put, is_cell}
 use Rattle.kernel_ast.specs.Meaning.{Held, Entry, entry, numbered, numbered_input, with_number, too_many_vertices, append_entry, constants, add_constant, value_at, fold_or_append, set_output}
-use Rattle.kernel_ast.specs.KernelGraph.{padded, node_of, graph_of}
+use Rattle.kernel_ast.specs.KernelGraph.{padded, node_of}
 use Rattle.kernel_ast.specs.WellFormed.{is_number, are_operators, is_function, all, expr_fits_step, expr_fits, stmt_fits_step, stmt_fits, body_fits, target_fits, index_fits, step_fits, IsWellFormed}
 use Rattle.kernel_ast.specs.WellFormed as well
 use Rattle.kernel_ast.specs.Weights.{assign_weight, loop_weight, branch_weight}
 use Rattle.three_address.specs.Laws.{HasSmallConstant, HasSmallConstants, ConstantsAreSmall}
-use Rattle.three_address.proofs.KernelGraphLaws.{HasRun, has_run}
+use Rattle.three_address.proofs.KernelGraphLaws.{has_run}
 use Rattle.three_address.proofs.KernelRuns.{ok_next}
 
 -- ---- numbers of 64 bits

@@ -16,8 +16,6 @@ mod inputs;
 mod labels;
 pub mod laws;
 mod outputs;
-#[cfg(test)]
-mod tests;
 mod vertices;
 
 pub use graph::lower;

@@ -14,7 +14,5 @@
 pub mod laws;
 mod number;
 mod read;
-#[cfg(test)]
-mod tests;
 
 pub use read::{ValuesEnd, read_values};

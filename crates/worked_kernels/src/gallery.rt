@@ -42,38 +42,37 @@ pub struct Run(pub &'static str, pub &'static str);
 
 #[test]
 fn kernels_with_arrays(rt: HostRuntime) -> Result<(), Fail> {
-    for known in arrays::ARRAYS {
-        check_kernel(&rt, rt.alloc(), known)?;
-    }
-    Ok(())
+    check_kernels(&rt, rt.alloc(), &arrays::ARRAYS)
 }
 
 #[test]
 fn kernels_without_arrays(rt: HostRuntime) -> Result<(), Fail> {
-    for known in scalars::SCALARS {
-        check_kernel(&rt, rt.alloc(), known)?;
-    }
-    Ok(())
+    check_kernels(&rt, rt.alloc(), &scalars::SCALARS)
 }
 
 #[test]
 fn kernels_with_branches_and_steps(rt: HostRuntime) -> Result<(), Fail> {
-    for known in branches::BRANCHES {
-        check_kernel(&rt, rt.alloc(), known)?;
+    check_kernels(&rt, rt.alloc(), &branches::BRANCHES)
+}
+
+// All that is known of each kernel.
+fn check_kernels(rt: &impl Abort, alloc: Global, kernels: &[Known]) -> Result<(), Fail> {
+    for known in kernels {
+        check_kernel(rt, alloc, known)?;
     }
     Ok(())
 }
 
 // All that is known of a kernel.
-fn check_kernel(rt: &impl Abort, alloc: Global, known: Known) -> Result<(), Fail> {
-    for run in known.runs {
-        check_outputs(rt, alloc, known.text, run)?;
+fn check_kernel(rt: &impl Abort, alloc: Global, known: &Known) -> Result<(), Fail> {
+    for run in &known.runs {
+        check_outputs(rt, alloc, known.text, *run)?;
     }
     check_graph(rt, alloc, known)?;
     check_too_small(rt, alloc, known)?;
-    for cost in known.costs {
-        check_plan(rt, alloc, known, cost)?;
-        check_code(rt, alloc, known, cost)?;
+    for cost in &known.costs {
+        check_plan(rt, alloc, known, *cost)?;
+        check_code(rt, alloc, known, *cost)?;
     }
     Ok(())
 }
@@ -88,13 +87,8 @@ fn check_outputs(rt: &impl Abort, alloc: Global, text: &str, run: Run) -> Result
 }
 
 // `graph` prints these numbers first.
-fn check_graph(rt: &impl Abort, alloc: Global, known: Known) -> Result<(), Fail> {
-    let Known {
-        vertices,
-        inputs,
-        degree,
-        ..
-    } = known;
+fn check_graph(rt: &impl Abort, alloc: Global, known: &Known) -> Result<(), Fail> {
+    let (vertices, inputs, degree) = (known.vertices, known.inputs, known.degree);
     let first = format!(in alloc; "vertices {vertices}\ninputs {inputs}\ndegree {degree}\n0 in ")?;
     let left = run_line(alloc, "graph", known.text.as_bytes(), b"old")?;
     let output = str::from_utf8(left.output.as_slice())?;
@@ -104,7 +98,7 @@ fn check_graph(rt: &impl Abort, alloc: Global, known: Known) -> Result<(), Fail>
 }
 
 // With as many slots as the degree `plan` prints how many are wanted.
-fn check_too_small(rt: &impl Abort, alloc: Global, known: Known) -> Result<(), Fail> {
+fn check_too_small(rt: &impl Abort, alloc: Global, known: &Known) -> Result<(), Fail> {
     let degree = known.degree;
     let words = format!(in alloc; "plan {degree} t 0")?;
     let left = run_line(alloc, words.as_str(), known.text.as_bytes(), b"old")?;
@@ -116,7 +110,7 @@ fn check_too_small(rt: &impl Abort, alloc: Global, known: Known) -> Result<(), F
 }
 
 // `plan` with these slots prints this cost and the bound, and is Optimal where they are equal.
-fn check_plan(rt: &impl Abort, alloc: Global, known: Known, wanted: Cost) -> Result<(), Fail> {
+fn check_plan(rt: &impl Abort, alloc: Global, known: &Known, wanted: Cost) -> Result<(), Fail> {
     let Cost(slots, cost) = wanted;
     let bound = known.bound;
     let words = format!(in alloc; "plan {slots} t 0")?;
@@ -136,7 +130,7 @@ fn check_plan(rt: &impl Abort, alloc: Global, known: Known, wanted: Cost) -> Res
 }
 
 // The code of the first plan with these slots prints what the source prints, with as many transfers as the plan costs.
-fn check_code(rt: &impl Abort, alloc: Global, known: Known, wanted: Cost) -> Result<(), Fail> {
+fn check_code(rt: &impl Abort, alloc: Global, known: &Known, wanted: Cost) -> Result<(), Fail> {
     let Cost(slots, cost) = wanted;
     assert!(rt; 0 < slots && slots <= 64);
     let graph = graph_of(alloc, known.text)?;
@@ -146,8 +140,8 @@ fn check_code(rt: &impl Abort, alloc: Global, known: Known, wanted: Cost) -> Res
     let plan = first(alloc, &game)?;
     assert_eq!(rt; plan.total(), cost);
     let code = emit(alloc, &plan)?;
-    for run in known.runs {
-        check_run(rt, alloc, &code, run, cost)?;
+    for run in &known.runs {
+        check_run(rt, alloc, &code, *run, cost)?;
     }
     Ok(())
 }

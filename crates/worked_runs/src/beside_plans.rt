@@ -1,7 +1,10 @@
 //! The commands `cache` and `parts`: what they print, the tables that they write, and desks that fail.
+use crate::leaving::{Expected, check_failing};
 use command_answers::Status;
-use desk_io::{Fail, Kind};
-use example_runs::{run_line, run_on, words_of};
+use desk_io::Kind;
+use example_runs::run_line;
+use std::alloc::Global;
+use std::process::Abort;
 use std::test::Fail as TestFail;
 
 /// The kernel y = x + 1.
@@ -83,15 +86,27 @@ const ROWS: [Row; 8] = [
     ),
 ];
 
+// The rows, of which the proof of a loop over them is to know nothing.
+fn rows() -> &'static [Row] {
+    &ROWS
+}
+
 #[test]
 fn caches_and_parts(rt: HostRuntime) -> Result<(), TestFail> {
-    for Row(words, kernel, status, printed, bytes) in ROWS {
-        let left = run_line(rt.alloc(), words, kernel.as_bytes(), b"old")?;
-        assert_eq!(rt; left.status, status, "{words}");
-        assert_eq!(rt; left.output.as_slice(), printed.as_bytes(), "{words}");
-        let file = left.file.ok_or("no file")?;
-        assert!(rt; bytes.is_none_or(|bytes| bytes == file.len()), "{words}");
+    for row in rows() {
+        check_row(&rt, rt.alloc(), *row)?;
     }
+    Ok(())
+}
+
+// The words and the kernel of a row print what the row says, and leave a file of so many bytes, if it says how many.
+fn check_row(rt: &impl Abort, alloc: Global, row: Row) -> Result<(), TestFail> {
+    let Row(words, kernel, status, printed, bytes) = row;
+    let left = run_line(alloc, words, kernel.as_bytes(), b"old")?;
+    assert_eq!(rt; left.status, status, "{words}");
+    assert_eq!(rt; left.output.as_slice(), printed.as_bytes(), "{words}");
+    let file = left.file.ok_or("no file")?;
+    assert!(rt; bytes.is_none_or(|bytes| bytes == file.len()), "{words}");
     Ok(())
 }
 
@@ -157,18 +172,20 @@ const FAILURES: [(&str, Kind, u32, Status, &str, &[u8]); 8] = [
     ),
 ];
 
+// The failing calls, of which the proof of a loop over them is to know nothing.
+fn failures() -> &'static [(&'static str, Kind, u32, Status, &'static str, &'static [u8])] {
+    &FAILURES
+}
+
 #[test]
 fn desks_that_fail(rt: HostRuntime) -> Result<(), TestFail> {
-    for (line, kind, nth, status, output, table) in FAILURES {
-        let mut fails = Vec::new(rt.alloc());
-        fails.push(Fail { kind, nth })?;
-        let words = words_of(rt.alloc(), line)?;
-        let file = Vec::from_slice(rt.alloc(), b"old")?;
-        let left = run_on(rt.alloc(), &words, P.as_bytes(), Some(file), 1, fails)?;
-        assert_eq!(rt; left.status, status);
-        assert_eq!(rt; left.output.as_slice(), output.as_bytes());
-        let file = left.file.ok_or("no file")?;
-        assert_eq!(rt; file.as_slice(), table);
+    for (line, kind, nth, status, output, file) in failures() {
+        let expected = Expected {
+            status: *status,
+            output: output.as_bytes(),
+            file,
+        };
+        check_failing(&rt, rt.alloc(), line, P.as_bytes(), (*kind, *nth), expected)?;
     }
     Ok(())
 }

@@ -151,10 +151,15 @@ const ROWS: [Row; 20] = [
 
 #[test]
 fn codes(rt: HostRuntime) -> Result<(), Fail> {
-    for row in ROWS {
-        check(&rt, rt.alloc(), row.code.as_bytes(), row)?;
+    for row in rows() {
+        check(&rt, rt.alloc(), row.code.as_bytes(), *row)?;
     }
     Ok(())
+}
+
+// The rows, of which the proof of a loop over them is to know nothing.
+fn rows() -> &'static [Row] {
+    &ROWS
 }
 
 // The text and the file of a row give what the row says, and the file stays.
@@ -238,19 +243,30 @@ fn with_line(alloc: Global, number: usize, instead: &str) -> Result<String, Allo
     Ok(text)
 }
 
+// The altered codes, of which the proof of a loop over them is to know nothing.
+fn alterations() -> &'static [Altered] {
+    &ALTERED
+}
+
 #[test]
 fn altered_codes(rt: HostRuntime) -> Result<(), Fail> {
-    for Altered(number, instead, status, printed) in ALTERED {
-        let text = with_line(rt.alloc(), number, instead)?;
-        let row = Row {
-            code: "",
-            file: "1",
-            status,
-            printed,
-        };
-        check(&rt, rt.alloc(), text.as_bytes(), row)?;
+    for row in alterations() {
+        check_altered(&rt, rt.alloc(), *row)?;
     }
     Ok(())
+}
+
+// The code with one line in place of another gives what the row says on the value 1.
+fn check_altered(rt: &impl Abort, alloc: Global, altered: Altered) -> Result<(), Fail> {
+    let Altered(number, instead, status, printed) = altered;
+    let text = with_line(alloc, number, instead)?;
+    let row = Row {
+        code: "",
+        file: "1",
+        status,
+        printed,
+    };
+    check(rt, alloc, text.as_bytes(), row)
 }
 
 /// Kernels with their slots and a values file. What `plan` prints of each runs as the kernel does.
@@ -273,16 +289,33 @@ const KERNELS: [(&str, &str, &str); 4] = [
     ("plan 1 t 0", "kernel w { in in0; out y; y = in0; }", "12"),
 ];
 
+// The kernels, of which the proof of a loop over them is to know nothing.
+fn kernels() -> &'static [(&'static str, &'static str, &'static str)] {
+    &KERNELS
+}
+
 #[test]
 fn plans_run_as_their_kernels(rt: HostRuntime) -> Result<(), Fail> {
-    for (words, kernel, values) in KERNELS {
-        let plan = run_line(rt.alloc(), words, kernel.as_bytes(), b"old")?;
-        let ran = run_line(rt.alloc(), "run v", kernel.as_bytes(), values.as_bytes())?;
-        let executed = run_line(rt.alloc(), "exec v", &plan.output, values.as_bytes())?;
-        assert_eq!(rt; ran.status, Status::Done);
-        assert_eq!(rt; executed.status, Status::Done);
-        assert!(rt; executed.output.starts_with(&ran.output));
-        assert!(rt; ran.output.len() < executed.output.len());
+    for (words, kernel, values) in kernels() {
+        check_plan(&rt, rt.alloc(), words, kernel.as_bytes(), values.as_bytes())?;
     }
+    Ok(())
+}
+
+// The code of a plan prints on these values what the kernel does, and more.
+fn check_plan(
+    rt: &impl Abort,
+    alloc: Global,
+    words: &str,
+    kernel: &[u8],
+    values: &[u8],
+) -> Result<(), Fail> {
+    let plan = run_line(alloc, words, kernel, b"old")?;
+    let ran = run_line(alloc, "run v", kernel, values)?;
+    let executed = run_line(alloc, "exec v", &plan.output, values)?;
+    assert_eq!(rt; ran.status, Status::Done);
+    assert_eq!(rt; executed.status, Status::Done);
+    assert!(rt; executed.output.starts_with(&ran.output));
+    assert!(rt; ran.output.len() < executed.output.len());
     Ok(())
 }

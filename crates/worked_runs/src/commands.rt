@@ -190,10 +190,15 @@ const ROWS: [Row; 21] = [
 
 #[test]
 fn commands_and_what_they_print(rt: HostRuntime) -> Result<(), Fail> {
-    for row in ROWS {
-        check_row(&rt, rt.alloc(), row)?;
+    for row in rows() {
+        check_row(&rt, rt.alloc(), *row)?;
     }
     Ok(())
+}
+
+// The rows, of which the proof of a loop over them is to know nothing.
+fn rows() -> &'static [Row] {
+    &ROWS
 }
 
 // The words, the kernel and the file of a row give what the row says, and the file stays.
@@ -261,10 +266,15 @@ const HONEST: [(&str, &str, Status); 12] = [
 
 #[test]
 fn desks_that_do_not_fail(rt: HostRuntime) -> Result<(), Fail> {
-    for (line, kernel, status) in HONEST {
-        check_honest(&rt, rt.alloc(), line, kernel, status)?;
+    for (line, kernel, status) in honest() {
+        check_honest(&rt, rt.alloc(), line, kernel, *status)?;
     }
     Ok(())
+}
+
+// The runs over an honest desk, of which the proof of a loop over them is to know nothing.
+fn honest() -> &'static [(&'static str, &'static str, Status)] {
+    &HONEST
 }
 
 // Over an honest desk the words and the kernel give this status.
@@ -319,15 +329,33 @@ const REPORTS: [(&str, &str, Status, &str); 3] = [
     ),
 ];
 
+// The reports, of which the proof of a loop over them is to know nothing.
+fn reports() -> &'static [(&'static str, &'static str, Status, &'static str)] {
+    &REPORTS
+}
+
 #[test]
 fn reports_of_plans(rt: HostRuntime) -> Result<(), Fail> {
-    for (words, kernel, status, report) in REPORTS {
-        let left = run_line(rt.alloc(), words, kernel.as_bytes(), b"old")?;
-        assert!(rt;
-            str::from_utf8(left.output.as_slice())?.starts_with(report),
-            "{words}"
-        );
-        assert_eq!(rt; left.status, status, "{words}");
+    for (words, kernel, status, report) in reports() {
+        check_report(&rt, rt.alloc(), words, kernel.as_bytes(), *status, report)?;
     }
+    Ok(())
+}
+
+// The words end with this status and print a text that begins with this report.
+fn check_report(
+    rt: &impl Abort,
+    alloc: Global,
+    words: &str,
+    kernel: &[u8],
+    status: Status,
+    report: &str,
+) -> Result<(), Fail> {
+    let left = run_line(alloc, words, kernel, b"old")?;
+    assert!(rt;
+        str::from_utf8(left.output.as_slice())?.starts_with(report),
+        "{words}"
+    );
+    assert_eq!(rt; left.status, status, "{words}");
     Ok(())
 }

@@ -1,8 +1,11 @@
 //! The commands `cover` and `covercheck`: what they print, the file, what `cover` wrote under `covercheck`, a name that is none, and desks that
 //! fail.
+use crate::leaving::{Expected, check_failing, check_run};
 use command_answers::Status;
-use desk_io::{Fail, Kind};
-use example_runs::{run_line, run_on, words_of};
+use desk_io::Kind;
+use example_runs::run_line;
+use std::alloc::Global;
+use std::process::Abort;
 use std::test::Fail as TestFail;
 
 /// The kernel y = x + 1.
@@ -96,21 +99,33 @@ const ROWS: [Row; 8] = [
     ),
 ];
 
+// The rows, of which the proof of a loop over them is to know nothing.
+fn rows() -> &'static [Row] {
+    &ROWS
+}
+
 #[test]
 fn covers(rt: HostRuntime) -> Result<(), TestFail> {
-    for Row(words, kernel, file, status, printed) in ROWS {
-        let left = run_line(rt.alloc(), words, kernel.as_bytes(), file)?;
-        assert_eq!(rt; left.status, status, "{words}");
-        assert_eq!(rt; left.output.as_slice(), printed.as_bytes(), "{words}");
-        let after = left.file.ok_or("no file")?;
-        let written = if status == Status::Optimal {
-            &FILE
-        } else {
-            file
-        };
-        assert_eq!(rt; after.as_slice(), written, "{words}");
+    for row in rows() {
+        check_row(&rt, rt.alloc(), *row)?;
     }
     Ok(())
+}
+
+// The file holds the covered table after an optimal plan, and else what it held.
+fn check_row(rt: &impl Abort, alloc: Global, row: Row) -> Result<(), TestFail> {
+    let Row(words, kernel, file, status, printed) = row;
+    let after = if status == Status::Optimal {
+        FILE.as_slice()
+    } else {
+        file
+    };
+    let expected = Expected {
+        status,
+        output: printed.as_bytes(),
+        file: after,
+    };
+    check_run(rt, alloc, words, kernel.as_bytes(), file, expected)
 }
 
 #[test]
@@ -137,18 +152,27 @@ const FAILURES: [(Kind, u32, Status, &str, &[u8]); 5] = [
     (Kind::PutOutput, 3, Status::WriteFault, "; k", &FILE),
 ];
 
+// The failing calls, of which the proof of a loop over them is to know nothing.
+fn failures() -> &'static [(Kind, u32, Status, &'static str, &'static [u8])] {
+    &FAILURES
+}
+
 #[test]
 fn desks_that_fail(rt: HostRuntime) -> Result<(), TestFail> {
-    for (kind, nth, status, output, table) in FAILURES {
-        let mut fails = Vec::new(rt.alloc());
-        fails.push(Fail { kind, nth })?;
-        let words = words_of(rt.alloc(), "cover 2 t")?;
-        let file = Vec::from_slice(rt.alloc(), b"old")?;
-        let left = run_on(rt.alloc(), &words, P.as_bytes(), Some(file), 1, fails)?;
-        assert_eq!(rt; left.status, status);
-        assert_eq!(rt; left.output.as_slice(), output.as_bytes());
-        let file = left.file.ok_or("no file")?;
-        assert_eq!(rt; file.as_slice(), table);
+    for (kind, nth, status, output, file) in failures() {
+        let expected = Expected {
+            status: *status,
+            output: output.as_bytes(),
+            file,
+        };
+        check_failing(
+            &rt,
+            rt.alloc(),
+            "cover 2 t",
+            P.as_bytes(),
+            (*kind, *nth),
+            expected,
+        )?;
     }
     Ok(())
 }

@@ -4,6 +4,8 @@
 #[cfg(test)]
 mod beside_plans;
 #[cfg(test)]
+mod calls;
+#[cfg(test)]
 mod checks;
 #[cfg(test)]
 mod codes;
@@ -11,6 +13,10 @@ mod codes;
 mod commands;
 #[cfg(test)]
 mod covers;
+#[cfg(test)]
+mod failing_desks;
+#[cfg(test)]
+mod leaving;
 #[cfg(test)]
 mod outputs;
 #[cfg(test)]

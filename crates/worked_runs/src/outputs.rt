@@ -498,13 +498,23 @@ const BRANCHES_AND_STEPS: [Ran; 41] = [
 
 #[test]
 fn outputs_of_kernels(rt: HostRuntime) -> Result<(), Fail> {
-    for row in RUNS {
-        check_run(&rt, rt.alloc(), row)?;
+    for row in runs() {
+        check_run(&rt, rt.alloc(), *row)?;
     }
-    for row in BRANCHES_AND_STEPS {
-        check_run(&rt, rt.alloc(), row)?;
+    for row in branches_and_steps() {
+        check_run(&rt, rt.alloc(), *row)?;
     }
     Ok(())
+}
+
+// The rows, of which the proof of a loop over them is to know nothing.
+fn runs() -> &'static [Ran] {
+    &RUNS
+}
+
+// The same of branches and steps.
+fn branches_and_steps() -> &'static [Ran] {
+    &BRANCHES_AND_STEPS
 }
 
 // The kernel prints these outputs on the values.

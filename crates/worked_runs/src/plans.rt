@@ -111,10 +111,15 @@ const ROWS: [Row; 11] = [
 
 #[test]
 fn plans_and_refusals(rt: HostRuntime) -> Result<(), TestFail> {
-    for row in ROWS {
-        check_row(&rt, rt.alloc(), row)?;
+    for row in rows() {
+        check_row(&rt, rt.alloc(), *row)?;
     }
     Ok(())
+}
+
+// The rows, of which the proof of a loop over them is to know nothing.
+fn rows() -> &'static [Row] {
+    &ROWS
 }
 
 // The words and the kernel of a row give what the row says.
@@ -154,19 +159,29 @@ const USAGES: [&str; 22] = [
     "",
 ];
 
+// The words, of which the proof of a loop over them is to know nothing.
+fn usages() -> &'static [&'static str] {
+    &USAGES
+}
+
 #[test]
 fn words_that_are_usage(rt: HostRuntime) -> Result<(), TestFail> {
-    for words in USAGES {
-        let row = Row {
-            words,
-            kernel: P,
-            status: Status::Usage,
-            printed: USAGE,
-            table: b"old",
-        };
-        check_row(&rt, rt.alloc(), row)?;
+    for words in usages() {
+        check_usage(&rt, rt.alloc(), words)?;
     }
     Ok(())
+}
+
+// The words are none that the program knows.
+fn check_usage(rt: &impl Abort, alloc: Global, words: &'static str) -> Result<(), TestFail> {
+    let row = Row {
+        words,
+        kernel: P,
+        status: Status::Usage,
+        printed: USAGE,
+        table: b"old",
+    };
+    check_row(rt, alloc, row)
 }
 
 /// A call that fails, counted from 0 in its kind, and the status, the output and the file that are left, over a desk that moves a
@@ -240,14 +255,19 @@ const FAILURES: [Failure; 8] = [
     },
 ];
 
+// The failing calls, of which the proof of a loop over them is to know nothing.
+fn failures() -> &'static [Failure] {
+    &FAILURES
+}
+
 #[test]
 fn desks_that_fail(rt: HostRuntime) -> Result<(), TestFail> {
-    for failure in FAILURES {
+    for failure in failures() {
         let fail = Fail {
             kind: failure.kind,
             nth: failure.nth,
         };
-        check_failure(&rt, rt.alloc(), Some(fail), failure)?;
+        check_failure(&rt, rt.alloc(), Some(fail), *failure)?;
     }
     let whole = Failure {
         kind: Kind::TakeInput,

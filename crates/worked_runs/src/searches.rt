@@ -1,4 +1,5 @@
 //! Plans by the search: the numbers, the code and the table of the worked examples with a budget, and with none in the words.
+use crate::leaving::{Expected, check_run};
 use command_answers::Status;
 use example_runs::run_line;
 use std::alloc::Global;
@@ -112,10 +113,15 @@ fn check_row(rt: &impl Abort, alloc: Global, row: Row) -> Result<(), Fail> {
 
 #[test]
 fn plans_by_the_search(rt: HostRuntime) -> Result<(), Fail> {
-    for row in ROWS {
-        check_row(&rt, rt.alloc(), row)?;
+    for row in rows() {
+        check_row(&rt, rt.alloc(), *row)?;
     }
     Ok(())
+}
+
+// The rows, of which the proof of a loop over them is to know nothing.
+fn rows() -> &'static [Row] {
+    &ROWS
 }
 
 /// Loads and stores of three slots are five: a load before the first of four products, one between each two, and the store.
@@ -153,17 +159,34 @@ const OPEN: [(&str, &str, &[u8]); 2] = [
     ),
 ];
 
+// The plans that are left open, of which the proof of a loop over them is to know nothing.
+fn left_open() -> &'static [(&'static str, &'static str, &'static [u8])] {
+    &OPEN
+}
+
 #[test]
 fn plans_with_a_spent_budget(rt: HostRuntime) -> Result<(), Fail> {
-    for (words, numbers, table) in OPEN {
-        let left = run_line(rt.alloc(), words, CHAIN.as_bytes(), b"old")?;
-        assert_eq!(rt; left.status, Status::Open, "{words}");
-        let wanted = format!(in rt.alloc();
-            "; kernel chain\n; vertices 8\n; inputs 1\n; degree 2\n; slots 3\n; first 7\n{numbers}{CHAIN_CODE}"
-        )?;
-        assert_eq!(rt; left.output.as_slice(), wanted.as_bytes());
-        let file = left.file.ok_or("no file")?;
-        assert_eq!(rt; file.as_slice(), table);
+    for (words, numbers, table) in left_open() {
+        check_open(&rt, rt.alloc(), words, numbers, table)?;
     }
     Ok(())
+}
+
+// The words of a plan of CHAIN leave it open, with these numbers and this table.
+fn check_open(
+    rt: &impl Abort,
+    alloc: Global,
+    words: &str,
+    numbers: &str,
+    table: &[u8],
+) -> Result<(), Fail> {
+    let output = format!(in alloc;
+        "; kernel chain\n; vertices 8\n; inputs 1\n; degree 2\n; slots 3\n; first 7\n{numbers}{CHAIN_CODE}"
+    )?;
+    let expected = Expected {
+        status: Status::Open,
+        output: output.as_bytes(),
+        file: table,
+    };
+    check_run(rt, alloc, words, CHAIN.as_bytes(), b"old", expected)
 }

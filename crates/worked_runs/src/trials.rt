@@ -1,7 +1,8 @@
 //! The command `trial`: its lines, its table, too few slots, and desks that fail. What stands in the input is no kernel.
+use crate::leaving::{Expected, check_failing};
 use command_answers::Status;
-use desk_io::{Fail, Kind};
-use example_runs::{run_line, run_on, words_of};
+use desk_io::Kind;
+use example_runs::run_line;
 use std::alloc::Global;
 use std::process::Abort;
 use std::test::Fail as TestFail;
@@ -52,15 +53,33 @@ const ROWS: [(&str, Status, &str, usize); 7] = [
     ),
 ];
 
+// The rows, of which the proof of a loop over them is to know nothing.
+fn rows() -> &'static [(&'static str, Status, &'static str, usize)] {
+    &ROWS
+}
+
 #[test]
 fn trials(rt: HostRuntime) -> Result<(), TestFail> {
-    for (words, status, printed, bytes) in ROWS {
-        let left = run_line(rt.alloc(), words, INPUT, b"old")?;
-        assert_eq!(rt; left.status, status, "{words}");
-        assert_eq!(rt; left.output.as_slice(), printed.as_bytes(), "{words}");
-        let file = left.file.ok_or("no file")?;
-        assert_eq!(rt; file.len(), bytes, "{words}");
+    for (words, status, printed, bytes) in rows() {
+        check_trial(&rt, rt.alloc(), words, *status, printed, *bytes)?;
     }
+    Ok(())
+}
+
+// The words end with this status, print this text, and leave a file of so many bytes.
+fn check_trial(
+    rt: &impl Abort,
+    alloc: Global,
+    words: &str,
+    status: Status,
+    printed: &str,
+    bytes: usize,
+) -> Result<(), TestFail> {
+    let left = run_line(alloc, words, INPUT, b"old")?;
+    assert_eq!(rt; left.status, status, "{words}");
+    assert_eq!(rt; left.output.as_slice(), printed.as_bytes(), "{words}");
+    let file = left.file.ok_or("no file")?;
+    assert_eq!(rt; file.len(), bytes, "{words}");
     Ok(())
 }
 
@@ -75,18 +94,27 @@ const FAILURES: [(Kind, u32, Status, &str, &[u8]); 6] = [
     (Kind::PutOutput, 3, Status::WriteFault, "tri", &ONE_TABLE),
 ];
 
+// The failing calls, of which the proof of a loop over them is to know nothing.
+fn failures() -> &'static [(Kind, u32, Status, &'static str, &'static [u8])] {
+    &FAILURES
+}
+
 #[test]
 fn desks_that_fail(rt: HostRuntime) -> Result<(), TestFail> {
-    for (kind, nth, status, output, table) in FAILURES {
-        let mut fails = Vec::new(rt.alloc());
-        fails.push(Fail { kind, nth })?;
-        let words = words_of(rt.alloc(), "trial 1 3 t")?;
-        let file = Vec::from_slice(rt.alloc(), b"old")?;
-        let left = run_on(rt.alloc(), &words, INPUT, Some(file), 1, fails)?;
-        assert_eq!(rt; left.status, status);
-        assert_eq!(rt; left.output.as_slice(), output.as_bytes());
-        let file = left.file.ok_or("no file")?;
-        assert_eq!(rt; file.as_slice(), table);
+    for (kind, nth, status, output, file) in failures() {
+        let expected = Expected {
+            status: *status,
+            output: output.as_bytes(),
+            file,
+        };
+        check_failing(
+            &rt,
+            rt.alloc(),
+            "trial 1 3 t",
+            INPUT,
+            (*kind, *nth),
+            expected,
+        )?;
     }
     Ok(())
 }

@@ -1,7 +1,7 @@
 //! A text for each code of a fault. Each command answers it.
 use crate::texts::{check_fault, push_times};
 use example_runs::run_line;
-use std::alloc::Global;
+use std::alloc::{AllocError, Global};
 use std::process::Abort;
 use std::test::Fail;
 
@@ -24,20 +24,31 @@ const FAULTS: [(u8, usize, &str); 15] = [
     (17, 28, "kernel a { for i in 0..1 by 0 { } }"),
 ];
 
+// The texts, of which the proof of a loop over them is to know nothing.
+fn faults() -> &'static [(u8, usize, &'static str)] {
+    &FAULTS
+}
+
 #[test]
 fn faults_of_each_command(rt: HostRuntime) -> Result<(), Fail> {
-    for (code, at, kernel) in FAULTS {
-        check_faults(&rt, rt.alloc(), code, at, kernel)?;
+    for (code, at, kernel) in faults() {
+        check_faults(&rt, rt.alloc(), *code, *at, kernel)?;
     }
-    let mut deep = String::from_str(rt.alloc(), "kernel a { out y; y = ")?;
-    push_times(&mut deep, "(", 33)?;
-    deep.push_str("1")?;
-    push_times(&mut deep, ")", 33)?;
-    deep.push_str("; }")?;
+    let deep = groups(rt.alloc(), 33)?;
     check_faults(&rt, rt.alloc(), 13, 54, deep.as_str())?;
     let mut long = String::new(rt.alloc());
     push_times(&mut long, " ", 65537)?;
     check_faults(&rt, rt.alloc(), 15, 65536, long.as_str())
+}
+
+// A kernel with so many groups in one another.
+fn groups(alloc: Global, count: usize) -> Result<String, AllocError> {
+    let mut deep = String::from_str(alloc, "kernel a { out y; y = ")?;
+    push_times(&mut deep, "(", count)?;
+    deep.push_str("1")?;
+    push_times(&mut deep, ")", count)?;
+    deep.push_str("; }")?;
+    Ok(deep)
 }
 
 // Each command answers the fault of the text, and leaves the file as it was.

@@ -432,11 +432,14 @@ fn faults_of_branches_and_steps(rt: HostRuntime) -> Result<(), Fail> {
     check_cuts(&rt, rt.alloc(), 14, &BIG_SIDE)?;
     check_cuts(&rt, rt.alloc(), 7, &OUT_OF_RANGE_THERE)?;
     check_cuts(&rt, rt.alloc(), 12, &TOO_MANY_TURNS_THERE)?;
-    for First(code, cut) in AT_THE_LAST_TURN {
-        check_cuts(&rt, rt.alloc(), code, &[cut])?;
-    }
-    for First(code, cut) in AFTER_BRANCHES {
-        check_cuts(&rt, rt.alloc(), code, &[cut])?;
+    check_firsts(&rt, rt.alloc(), &AT_THE_LAST_TURN)?;
+    check_firsts(&rt, rt.alloc(), &AFTER_BRANCHES)
+}
+
+// Each command answers the fault of the code that is named, where the text is cut.
+fn check_firsts(rt: &impl Abort, alloc: Global, firsts: &[First]) -> Result<(), Fail> {
+    for First(code, cut) in firsts {
+        check_cuts(rt, alloc, *code, &[*cut])?;
     }
     Ok(())
 }

@@ -15,6 +15,8 @@ mod tokens;
 use accepted::Planned;
 use command_answers::Status;
 use example_runs::{Left, run_line};
+use lengths::Long;
+use levels::Nest;
 use phases::First;
 use std::alloc::{AllocError, Global};
 use std::process::Abort;
@@ -113,46 +115,59 @@ fn first_faults(rt: HostRuntime) -> Result<(), Fail> {
     check_cuts(&rt, rt.alloc(), 6, &names::INDICES)
 }
 
-#[test]
-fn first_of_several_faults(rt: HostRuntime) -> Result<(), Fail> {
-    for First(code, cut) in phases::SEVERAL {
-        check_cut(&rt, rt.alloc(), code, cut)?;
-    }
-    for First(code, cut) in phases::AT_ONE_NAME {
-        check_cut(&rt, rt.alloc(), code, cut)?;
-    }
-    for First(code, cut) in names::IN_BRANCHES {
-        check_cut(&rt, rt.alloc(), code, cut)?;
+// The code of the first fault of each text, and where it is.
+fn check_firsts(rt: &impl Abort, alloc: Global, firsts: &[First]) -> Result<(), Fail> {
+    for First(code, cut) in firsts {
+        check_cut(rt, alloc, *code, *cut)?;
     }
     Ok(())
 }
 
 #[test]
+fn first_of_several_faults(rt: HostRuntime) -> Result<(), Fail> {
+    check_firsts(&rt, rt.alloc(), &phases::SEVERAL)?;
+    check_firsts(&rt, rt.alloc(), &phases::AT_ONE_NAME)?;
+    check_firsts(&rt, rt.alloc(), &names::IN_BRANCHES)
+}
+
+// In each gap of a text the bytes are a fault there.
+fn check_broken(rt: &impl Abort, alloc: Global, broken: &[u8], gaps: &[Cut]) -> Result<(), Fail> {
+    for Cut(at, before, rest) in gaps {
+        assert_eq!(rt; before.len(), *at);
+        let mut text = Vec::from_slice(alloc, before.as_bytes())?;
+        text.extend_from_slice(broken)?;
+        text.extend_from_slice(rest.as_bytes())?;
+        check(rt, alloc, text.as_slice(), Answer::Fault(1, *at))?;
+    }
+    Ok(())
+}
+
+// The bytes that are no characters, of which the proof of a loop over them is to know nothing.
+fn broken_bytes() -> &'static [&'static [u8]] {
+    &bytes::BROKEN
+}
+
+#[test]
 fn bytes_that_are_no_characters(rt: HostRuntime) -> Result<(), Fail> {
-    for broken in bytes::BROKEN {
-        for Cut(at, before, rest) in bytes::GAPS {
-            assert_eq!(rt; before.len(), at);
-            let mut text = Vec::from_slice(rt.alloc(), before.as_bytes())?;
-            text.extend_from_slice(broken)?;
-            text.extend_from_slice(rest.as_bytes())?;
-            check(&rt, rt.alloc(), text.as_slice(), Answer::Fault(1, at))?;
-        }
+    for broken in broken_bytes() {
+        check_broken(&rt, rt.alloc(), broken, &bytes::GAPS)?;
+    }
+    Ok(())
+}
+
+// Each text is planned at its cost.
+fn check_planned(rt: &impl Abort, alloc: Global, planned: &[Planned]) -> Result<(), Fail> {
+    for Planned(cost, text) in planned {
+        check(rt, alloc, text.as_bytes(), Answer::Plan(*cost))?;
     }
     Ok(())
 }
 
 #[test]
 fn texts_without_fault(rt: HostRuntime) -> Result<(), Fail> {
-    for Planned(cost, text) in accepted::PLANNED {
-        check(&rt, rt.alloc(), text.as_bytes(), Answer::Plan(cost))?;
-    }
-    for Planned(cost, text) in accepted::WHOLE_LANGUAGE {
-        check(&rt, rt.alloc(), text.as_bytes(), Answer::Plan(cost))?;
-    }
-    for Planned(cost, text) in accepted::BRANCHES_AND_STEPS {
-        check(&rt, rt.alloc(), text.as_bytes(), Answer::Plan(cost))?;
-    }
-    Ok(())
+    check_planned(&rt, rt.alloc(), &accepted::PLANNED)?;
+    check_planned(&rt, rt.alloc(), &accepted::WHOLE_LANGUAGE)?;
+    check_planned(&rt, rt.alloc(), &accepted::BRANCHES_AND_STEPS)
 }
 
 #[test]
@@ -171,48 +186,73 @@ fn names_of_three_scripts(rt: HostRuntime) -> Result<(), Fail> {
     Ok(())
 }
 
+// Parts in one another up to the limit have this answer, and one more is a fault.
+fn check_nest(rt: &impl Abort, alloc: Global, nest: &Nest) -> Result<(), Fail> {
+    let fits = nest.text(alloc, nest.fits)?;
+    check(rt, alloc, fits.as_bytes(), nest.answer)?;
+    let deeper = nest.text(alloc, nest.fits.saturating_add(1))?;
+    check(rt, alloc, deeper.as_bytes(), Answer::Fault(13, nest.at))
+}
+
+// Behind 32 open groups the rest of the text is this fault.
+fn check_in_groups(rt: &impl Abort, alloc: Global, code: u8, rest: &str) -> Result<(), Fail> {
+    let mut text = String::from_str(alloc, "kernel a { out y; y = ")?;
+    push_times(&mut text, "(", 32)?;
+    text.push_str(rest)?;
+    check(rt, alloc, text.as_bytes(), Answer::Fault(code, 22 + 32))
+}
+
+// Each of these parts fits so often in itself, and no more often.
+fn check_nests(rt: &impl Abort, alloc: Global, nests: &[Nest]) -> Result<(), Fail> {
+    for nest in nests {
+        check_nest(rt, alloc, nest)?;
+    }
+    Ok(())
+}
+
+// The ends of texts, of which the proof of a loop over them is to know nothing.
+fn in_32_groups() -> &'static [(u8, &'static str)] {
+    &levels::IN_32_GROUPS
+}
+
 #[test]
 fn parts_in_one_another(rt: HostRuntime) -> Result<(), Fail> {
-    for nest in levels::NESTS {
-        let fits = nest.text(rt.alloc(), nest.fits)?;
-        check(&rt, rt.alloc(), fits.as_bytes(), nest.answer)?;
-        let deeper = nest.text(rt.alloc(), nest.fits.saturating_add(1))?;
-        check(
-            &rt,
-            rt.alloc(),
-            deeper.as_bytes(),
-            Answer::Fault(13, nest.at),
-        )?;
+    check_nests(&rt, rt.alloc(), &levels::NESTS)?;
+    for (code, rest) in in_32_groups() {
+        check_in_groups(&rt, rt.alloc(), *code, rest)?;
     }
-    for (code, rest) in levels::IN_32_GROUPS {
-        let mut text = String::from_str(rt.alloc(), "kernel a { out y; y = ")?;
-        push_times(&mut text, "(", 32)?;
-        text.push_str(rest)?;
-        check(
-            &rt,
-            rt.alloc(),
-            text.as_bytes(),
-            Answer::Fault(code, 22 + 32),
-        )?;
+    Ok(())
+}
+
+// So many loops in one another with this body have this answer.
+fn check_loops(
+    rt: &impl Abort,
+    alloc: Global,
+    loops: &[(usize, &str, Answer)],
+) -> Result<(), Fail> {
+    for (count, body, answer) in loops {
+        let text = levels::loops(alloc, *count, body)?;
+        check(rt, alloc, text.as_bytes(), *answer)?;
     }
     Ok(())
 }
 
 #[test]
 fn loops_in_one_another(rt: HostRuntime) -> Result<(), Fail> {
-    for (count, body, answer) in levels::LOOPS {
-        let text = levels::loops(rt.alloc(), count, body)?;
-        check(&rt, rt.alloc(), text.as_bytes(), answer)?;
+    check_loops(&rt, rt.alloc(), &levels::LOOPS)
+}
+
+// Each text has its length and its answer.
+fn check_lengths(rt: &impl Abort, alloc: Global, texts: &[Long]) -> Result<(), Fail> {
+    for long in texts {
+        let text = long.text(alloc)?;
+        assert_eq!(rt; text.len(), long.length);
+        check(rt, alloc, text.as_bytes(), long.answer)?;
     }
     Ok(())
 }
 
 #[test]
 fn long_texts(rt: HostRuntime) -> Result<(), Fail> {
-    for long in lengths::LONG {
-        let text = long.text(rt.alloc())?;
-        assert_eq!(rt; text.len(), long.length);
-        check(&rt, rt.alloc(), text.as_bytes(), long.answer)?;
-    }
-    Ok(())
+    check_lengths(&rt, rt.alloc(), &lengths::LONG)
 }

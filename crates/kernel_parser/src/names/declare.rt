@@ -7,9 +7,9 @@ ghost use Rattle.kernel_parser.specs.Scopes.{EndsAt};
 use crate::names::fault::NameRule;
 use crate::names::lookup::name_of;
 use crate::parse_end::ParseEnd;
-use crate::raw::{RawDecl, RawSize};
 use indexmap::IndexMap;
 use kernel_ast::{Decl, Name};
+use kernel_syntax::raw::{RawDecl, RawSize};
 use sqlite_items::Items;
 use std::alloc::Global;
 

@@ -7,8 +7,8 @@ ghost use Rattle.kernel_parser.specs.Scopes.{known, EndsAt};
 
 use crate::names::scope::Scope;
 use crate::parse_end::ParseEnd;
-use crate::raw::{RawExpr, RawLink};
 use kernel_ast::{Expr, Link};
+use kernel_syntax::raw::{RawExpr, RawLink};
 use sqlite_items::{Boxed, Items};
 
 impl<'a> Scope<'a> {

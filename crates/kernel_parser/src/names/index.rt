@@ -8,8 +8,8 @@ ghost use Rattle.kernel_parser.specs.Scopes.{known, EndsAt};
 use crate::names::fault::NameRule;
 use crate::names::scope::{Meaning, Scope};
 use crate::parse_end::ParseEnd;
-use crate::raw::{RawIndex, RawIndexLink, RawIndexTree, Span};
 use kernel_ast::{Index, IndexLink, IndexTree};
+use kernel_syntax::raw::{RawIndex, RawIndexLink, RawIndexTree, Span};
 use sqlite_items::{Boxed, Items};
 
 impl<'a> Scope<'a> {

@@ -5,9 +5,9 @@ ghost use Rattle.kernel_parser.specs.Names as spec;
 ghost use Rattle.kernel_parser.specs.Scopes.{known};
 
 use crate::names::scope::{Meaning, Scope};
-use crate::raw::Span;
 use indexmap::IndexMap;
 use kernel_ast::{Decl, DeclKind, Name};
+use kernel_syntax::raw::Span;
 use std::alloc::{AllocError, Global};
 
 /// The bytes of a stretch of the text.

@@ -7,8 +7,8 @@ ghost use Rattle.kernel_parser.specs.Scopes.{known, EndsAt};
 use crate::names::fault::NameRule;
 use crate::names::scope::{Meaning, Scope};
 use crate::parse_end::ParseEnd;
-use crate::raw::RawPlace;
 use kernel_ast::{Expr, Place};
+use kernel_syntax::raw::RawPlace;
 
 impl<'a> Scope<'a> {
     /// Resolves a place in an expression.

@@ -1,5 +1,6 @@
 //! Resolves statements.
-ghost use Rattle.std.specs.Prelude.{◌≡◌, ◌≤◌, true, length, [], OnOk, IfOk, IfErr};
+ghost use Rattle.std.specs.Prelude.{◌≡◌, ◌≤◌, ◌++◌, ◌∷◌, true, length, [], OnOk, IfOk, IfErr};
+ghost use Rattle.kernel_syntax.specs.declared.raw.RawStmt.TheVariants as raw_stmt;
 ghost use Rattle.kernel_parser.specs.Names as spec;
 ghost use Rattle.kernel_parser.specs.RawFits.{stmt_fits, body_fits};
 ghost use Rattle.kernel_parser.specs.Resolved as tree;
@@ -9,9 +10,10 @@ use crate::names::fault::NameRule;
 use crate::names::lookup::name_of;
 use crate::names::scope::{Meaning, Scope, Table};
 use crate::parse_end::ParseEnd;
-use crate::raw::{RawBranch, RawExpr, RawIndex, RawLoop, RawPlace, RawStmt};
 use kernel_ast::{Index, Name, Stmt};
+use kernel_syntax::raw::{RawBranch, RawExpr, RawIndex, RawLoop, RawPlace, RawStmt, Span};
 use sqlite_items::Items;
+use std::alloc::AllocError;
 
 /// The bounds and the step of a loop.
 #[derive(Drop)]
@@ -71,6 +73,15 @@ impl<'a> Table<'a> {
         ))
     }
 
+    /// Opens a loop of this name inside the others.
+    fn enter(&self, loops: &mut Vec<Name>, name: Span) -> Result<(), AllocError>
+        ensures { OnOk result (loops.new.items ≡ loops.old.items ++ spec.word self.now.text.now name ∷ []) }
+    {
+        let name = name_of(self.alloc, self.text, name)?;
+        loops.push(name)?;
+        Ok(())
+    }
+
     fn assignment(
         &self,
         loops: &[Name],
@@ -102,19 +113,7 @@ impl<'a> Table<'a> {
     {
         match raw {
             RawStmt::Assign(target, value) => self.assignment(loops.as_slice(), target, value),
-            RawStmt::Loop(header, body) => {
-                let Header { from, to, by } = self.header(loops.as_slice(), header)?;
-                loops.push(name_of(self.alloc, self.text, header.name)?)?;
-                let body = self.body(loops, body.as_slice())?;
-                loops.pop();
-                Ok(Stmt::Loop {
-                    from,
-                    to,
-                    by,
-                    body,
-                    at: header.at,
-                })
-            }
+            RawStmt::Loop(header, body) => self.looped(loops, header, body.as_slice()),
             RawStmt::Branch(condition, taken, other) => {
                 let (left, right) = self.sides(loops.as_slice(), condition)?;
                 let taken = self.body(loops, taken.as_slice())?;
@@ -129,6 +128,35 @@ impl<'a> Table<'a> {
                 })
             }
         }
+    }
+
+    /// Resolves a loop, whose name is known in its body.
+    #[cycle(statement)]
+    fn looped(
+        &self,
+        loops: &mut Vec<Name>,
+        header: &RawLoop,
+        body: &[RawStmt],
+    ) -> Result<Stmt, ParseEnd>
+        requires depth { length loops.old.items ≤ 32 }
+        requires fits { stmt_fits (raw_stmt.Loop header.now body.now) (length loops.old.items) ≡ true }
+        ensures faultless { OnOk result (spec.stmt_faults self.now.text.now (entries self.now) (raw_stmt.Loop header.now body.now) loops.old.items ≡ []) }
+        ensures tree { IfOk result (λ t. t ≡ tree.stmt_of self.now.text.now (entries self.now) (raw_stmt.Loop header.now body.now) loops.old.items) }
+        ensures fault { IfErr result (EndsAt (spec.stmt_faults self.now.text.now (entries self.now) (raw_stmt.Loop header.now body.now) loops.old.items)) }
+        ensures same { OnOk result (loops.new.items ≡ loops.old.items) }
+    {
+        let resolved = self.header(loops.as_slice(), header)?;
+        self.enter(loops, header.name)?;
+        let body = self.body(loops, body)?;
+        loops.pop();
+        let Header { from, to, by } = resolved;
+        Ok(Stmt::Loop {
+            from,
+            to,
+            by,
+            body,
+            at: header.at,
+        })
     }
 
     /// Resolves the statements of a body, which stands in these loops.

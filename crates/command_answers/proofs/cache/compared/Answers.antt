@@ -1,7 +1,5 @@
 -- The run of the cache, and what the search finds from the first plan, are what is answered.
 use Rattle.std.proofs.Common.{◌≡◌, subst, sym}
-use Rattle.comp_graph.specs.Games.{IsGame}
-use Rattle.branch_bound.proofs.FoundLaws.{found_in_range}
 use Rattle.command_answers.specs.CacheAnswers.{IsCached}
 use Rattle.command_answers.specs.PlanAnswers.{first_plan_of}
 use Rattle.command_answers.proofs.FirstPlans.{first_plan_is}
@@ -10,9 +8,7 @@ use Rattle.command_answers.proofs.FoundPlans.{of_answer}
 use Rattle.command_answers.proofs.cache.compared.Goals as goal
 
 pub found_answer-requires-clause-table : goal.found_answer-requires-clause-table
-found_answer-requires-clause-table c =
-    let game : IsGame c.in_ok-first.first.game = subst IsGame (sym c.in_ok-first.ensures.game) c.slots-slots.ensures.valid in
-    found_in_range c.in_ok-first.first game c.args.asked.budget c.requires.budget c.in_ok-found.found c.in_ok-found.ensures
+found_answer-requires-clause-table c = c.in_ok-found.ensures.in_range
 
 pub returns : goal.returns
 returns c =

@@ -1,7 +1,5 @@
 -- What the search that names covering rows finds from the first plan is what is answered.
-use Rattle.std.proofs.Common.{◌≡◌, subst, sym, arith}
-use Rattle.comp_graph.specs.Games.{IsGame}
-use Rattle.cover_cert.proofs.CoverRanges.{cover_in_range}
+use Rattle.std.proofs.Common.{◌≡◌, subst, sym}
 use Rattle.command_answers.specs.CoverAnswers.{IsCovered}
 use Rattle.command_answers.specs.PlanAnswers.{first_plan_of}
 use Rattle.command_answers.proofs.FirstPlans.{first_plan_is}
@@ -10,12 +8,7 @@ use Rattle.command_answers.proofs.FoundPlans.{of_answer}
 use Rattle.command_answers.proofs.cover.covered.Goals as goal
 
 pub found_answer-requires-clause-table : goal.found_answer-requires-clause-table
-found_answer-requires-clause-table c =
-    let game : IsGame c.in_ok-first.first.game = subst IsGame (sym c.in_ok-first.ensures.game) c.slots-slots.ensures.valid in
-    let table = c.in_ok-found.ensures.table in
-    let few = table.few in
-    let budget = c.requires.budget in
-    cover_in_range c.in_ok-first.first.game game c.in_ok-found.found.table table.of_game (omega (arith, few, budget))
+found_answer-requires-clause-table c = c.in_ok-found.ensures.in_range
 
 pub returns : goal.returns
 returns c =

@@ -12,7 +12,7 @@ use Rattle.cover_cert.proofs.making.make.Goals.{in-Some-row_named+in_ok-push-in-
 use Rattle.cover_cert.proofs.making.make.Goals as goal
 
 pub loop-step-init : goal.loop-step-init
-loop-step-init c =
+loop-step-init g c =
     let game = c.args.game.now in
     let p = c.position-position.result in
     let row : Row = record { position = c.position-position.result; cost = c.head.result.cost } in
@@ -34,7 +34,7 @@ loop-step-init c =
     }
 
 pub row_named-requires : goal.row_named-requires
-row_named-requires c =
+row_named-requires g c =
     let game = c.args.game.now in
     let p = c.position-position.result in
     let row : Row = record { position = c.position-position.result; cost = c.head.result.cost } in
@@ -45,7 +45,7 @@ row_named-requires c =
     doing_legal game c.requires.game c.args.k row rows c.args.frontier.now c.args.best.now c.loop-step.frontier c.loop-step.best names c.loop-step.place c.in-Some.step c.next.new.self on sound
 
 pub try_step-requires-clause-frontier : goal.try_step-requires-clause-frontier
-try_step-requires-clause-frontier c =
+try_step-requires-clause-frontier g c =
     let game = c.args.game.now in
     let p = c.position-position.result in
     let row : Row = record { position = c.position-position.result; cost = c.head.result.cost } in
@@ -56,7 +56,7 @@ try_step-requires-clause-frontier c =
     on.has_done.frontier
 
 pub try_step-requires-clause-wide : goal.try_step-requires-clause-wide
-try_step-requires-clause-wide c =
+try_step-requires-clause-wide g c =
     let game = c.args.game.now in
     let p = c.position-position.result in
     let row : Row = record { position = c.position-position.result; cost = c.head.result.cost } in
@@ -67,7 +67,7 @@ try_step-requires-clause-wide c =
     on.wide
 
 pub try_step-requires-clause-expanding : goal.try_step-requires-clause-expanding
-try_step-requires-clause-expanding c =
+try_step-requires-clause-expanding g c =
     let game = c.args.game.now in
     let p = c.position-position.result in
     let row : Row = record { position = c.position-position.result; cost = c.head.result.cost } in
@@ -78,7 +78,7 @@ try_step-requires-clause-expanding c =
     on.expanding
 
 pub try_step-requires-clause-position : goal.try_step-requires-clause-position
-try_step-requires-clause-position c =
+try_step-requires-clause-position g c =
     let game = c.args.game.now in
     let p = c.position-position.result in
     let row : Row = record { position = c.position-position.result; cost = c.head.result.cost } in
@@ -89,7 +89,7 @@ try_step-requires-clause-position c =
     ap (λ r. r.position) on.row
 
 pub try_step-requires-clause-cost : goal.try_step-requires-clause-cost
-try_step-requires-clause-cost c =
+try_step-requires-clause-cost g c =
     let game = c.args.game.now in
     let p = c.position-position.result in
     let row : Row = record { position = c.position-position.result; cost = c.head.result.cost } in
@@ -100,7 +100,7 @@ try_step-requires-clause-cost c =
     ap (λ r. r.cost) on.row
 
 pub try_step-requires-clause-current : goal.try_step-requires-clause-current
-try_step-requires-clause-current c =
+try_step-requires-clause-current g c =
     let game = c.args.game.now in
     let p = c.position-position.result in
     let row : Row = record { position = c.position-position.result; cost = c.head.result.cost } in
@@ -111,7 +111,7 @@ try_step-requires-clause-current c =
     on.current
 
 pub try_step-requires-clause-sound : goal.try_step-requires-clause-sound
-try_step-requires-clause-sound c =
+try_step-requires-clause-sound g c =
     let game = c.args.game.now in
     let p = c.position-position.result in
     let row : Row = record { position = c.position-position.result; cost = c.head.result.cost } in
@@ -122,7 +122,7 @@ try_step-requires-clause-sound c =
     sound
 
 pub try_step-requires-clause-legal : goal.try_step-requires-clause-legal
-try_step-requires-clause-legal c =
+try_step-requires-clause-legal g c =
     let game = c.args.game.now in
     let p = c.position-position.result in
     let row : Row = record { position = c.position-position.result; cost = c.head.result.cost } in
@@ -133,7 +133,7 @@ try_step-requires-clause-legal c =
     doing_legal game c.requires.game c.args.k row rows c.args.frontier.now c.args.best.now c.loop-step.frontier c.loop-step.best names c.loop-step.place c.in-Some.step c.next.new.self on sound
 
 pub try_step-requires-clause-room : goal.try_step-requires-clause-room
-try_step-requires-clause-room c =
+try_step-requires-clause-room g c =
     let game = c.args.game.now in
     let p = c.position-position.result in
     let row : Row = record { position = c.position-position.result; cost = c.head.result.cost } in
@@ -144,7 +144,7 @@ try_step-requires-clause-room c =
     doing_room game c.requires.game c.args.k row rows c.args.frontier.now c.args.best.now c.loop-step.frontier c.loop-step.best names c.loop-step.place c.in-Some.step c.next.new.self on
 
 pub overflow_add-place : goal.overflow_add-place
-overflow_add-place c =
+overflow_add-place g c =
     let game = c.args.game.now in
     let p = c.position-position.result in
     let row : Row = record { position = c.position-position.result; cost = c.head.result.cost } in
@@ -158,7 +158,7 @@ overflow_add-place c =
     omega (arith, less)
 
 pub loop-step-preserved : goal.loop-step-preserved
-loop-step-preserved c =
+loop-step-preserved g c =
     let game = c.args.game.now in
     let p = c.position-position.result in
     let row : Row = record { position = c.position-position.result; cost = c.head.result.cost } in
@@ -185,8 +185,8 @@ loop-step-preserved c =
       ];
     }
 
-pub returns : goal.returns
-returns c =
+pub returns-clause-made : goal.returns-clause-made
+returns-clause-made g c =
     let game = c.args.game.now in
     let p = c.position-position.result in
     let row : Row = record { position = c.position-position.result; cost = c.head.result.cost } in

@@ -1,20 +1,8 @@
--- What each turn of the loop that reads the file keeps, and why it ends: the text grows up to the limit.
-use Rattle.std.proofs.Common.{◌+◌, ◌-◌, ◌≡◌, vec_len}
-use Rattle.desk_io.specs.declared.desk.Kind.{Kind}
-use Rattle.desk_io.specs.declared.desk.Kind.TheVariants.{TakeFile}
-use Rattle.desk_io.proofs.KnownBytes.{BeginsFile}
+-- The ledgers that the steps and the bytes stand in: the blank ones.
 use Rattle.desk_io.proofs.transfer.read_file.Given as goal
 
-abbrev pub invariant-loop-buf : goal.invariant-loop-buf
-invariant-loop-buf g l = record {
-  begins : BeginsFile (g.D.Desk.file l.initial.desk) l.text.items;
-  no_fault : g.D.Desk.faults l.desk TakeFile ≡ g.D.Desk.faults l.initial.desk TakeFile;
-  other_faults : (other : Kind) → (other ≡ TakeFile → ⊥) → g.D.Desk.faults l.desk other ≡ g.D.Desk.faults l.initial.desk other;
-  same_name : g.D.Desk.name l.desk ≡ g.D.Desk.name l.initial.desk;
-  same_input : g.D.Desk.input l.desk ≡ g.D.Desk.input l.initial.desk;
-  same_file : g.D.Desk.file l.desk ≡ g.D.Desk.file l.initial.desk;
-  same_output : g.D.Desk.output l.desk ≡ g.D.Desk.output l.initial.desk;
-}
+abbrev pub ghosts-read_file_uncounted-L-Ledger : goal.ghosts-read_file_uncounted-L-Ledger
+ghosts-read_file_uncounted-L-Ledger g a = record { name = a.blank.name; parts = a.blank.parts }
 
-abbrev pub decreases-loop-buf : goal.decreases-loop-buf
-decreases-loop-buf g l = l.limit + 1 - vec_len l.text
+abbrev pub ghosts-read_file_uncounted-B-Ledger : goal.ghosts-read_file_uncounted-B-Ledger
+ghosts-read_file_uncounted-B-Ledger g a = record { name = a.other.name; parts = a.other.parts }

@@ -1,6 +1,6 @@
 -- What `kernel_of_text` owes `resolve`, and that the first fault of the names is that of the text.
 use Rattle.std.proofs.Common.{subst}
-use Rattle.kernel_parser.specs.Grammar.{Whole}
+use Rattle.kernel_syntax.specs.Grammar.{Whole}
 use Rattle.kernel_parser.proofs.ReadKernels.{text_fits}
 use Rattle.kernel_parser.proofs.NameEnds.{ends_at_name}
 use Rattle.kernel_parser.proofs.kernel_text.kernel_of_text.Goals as goal

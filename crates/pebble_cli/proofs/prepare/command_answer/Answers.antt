@@ -1,9 +1,11 @@
 -- The answer to the kernel or the code in the input, or to the trial kernel, is the answer to the input.
-use Rattle.std.proofs.Common.{◌≡◌, ◌∙◌, Err, rules, refl, sym, subst}
+use Rattle.std.proofs.Common.{◌≡◌, ◌∙◌, Some, Err, rules, refl, sym, ap, subst}
 use Rattle.desk_io.specs.Known.{Tells}
+use Rattle.command_answers.specs.declared.answer.EarlyEnd.TheVariants.{ReadFault}
 use Rattle.command_words.specs.declared.commands.Subject.TheVariants.{InputKernel, InputCode}
 use Rattle.pebble_cli.proofs.SubjectAnswers.{long_answers, told_answers, file_fault, long_code_answers, code_answers, code_file_fault, trial_answers, trial_file_fault, trial_in_limits}
-use Rattle.pebble_cli.proofs.InputRests.{idle_leaves, still_leaves}
+use Rattle.pebble_cli.specs.Faults.{input_limit}
+use Rattle.pebble_cli.proofs.InputRests.{idle_leaves, still_leaves, whole_within, idle_within, subject_within}
 use Rattle.pebble_cli.proofs.prepare.command_answer.Goals as goal
 
 -- ---- a kernel
@@ -33,6 +35,20 @@ returns-in_ok-text-in-InputKernel-clause-fault g c fault =
 pub returns-in_ok-text-in-InputKernel-clause-rest_left : goal.returns-in_ok-text-in-InputKernel-clause-rest_left
 returns-in_ok-text-in-InputKernel-clause-rest_left g c = still_leaves (g.D.Desk.input c.args.desk.now) _ _ c.kernel_answer.ensures.same_input c.kernel_input.ensures.rest_left
 
+pub returns-in_err-text-in-InputKernel-clause-early : goal.returns-in_err-text-in-InputKernel-clause-early
+returns-in_err-text-in-InputKernel-clause-early g c fault =
+    let end = c.in_err-text-in-InputKernel.field-0.0 in
+    let is : c.from_residual.result ≡ Err end = search rules in
+    let same : end ≡ ReadFault = cc in
+    subject_within c.args.command (g.D.Desk.input c.args.desk.now) _ InputKernel (sym c.subject.ensures ∙ c.in-InputKernel.is)
+    (c.kernel_input.ensures.early (c.in_err-text-in-InputKernel.was ∙ ap Err same))
+
+pub returns-in_ok-text-in-InputKernel-clause-early : goal.returns-in_ok-text-in-InputKernel-clause-early
+returns-in_ok-text-in-InputKernel-clause-early g c fault =
+    let read = c.in_ok-text-in-InputKernel.ensures in
+    subject_within c.args.command (g.D.Desk.input c.args.desk.now) _ InputKernel (sym c.subject.ensures ∙ c.in-InputKernel.is)
+    (whole_within (g.D.Desk.input c.args.desk.now) _ _ _ 65536 read.told read.short read.whole c.kernel_answer.ensures.same_input)
+
 -- ---- a code
 
 pub returns-in_err-text-in-InputCode-clause-answers : goal.returns-in_err-text-in-InputCode-clause-answers
@@ -57,6 +73,20 @@ returns-in_ok-text-in-InputCode-clause-fault g c fault =
 pub returns-in_ok-text-in-InputCode-clause-rest_left : goal.returns-in_ok-text-in-InputCode-clause-rest_left
 returns-in_ok-text-in-InputCode-clause-rest_left g c = still_leaves (g.D.Desk.input c.args.desk.now) _ _ c.exec_on_file.ensures.same_input c.code_input.ensures.rest_left
 
+pub returns-in_err-text-in-InputCode-clause-early : goal.returns-in_err-text-in-InputCode-clause-early
+returns-in_err-text-in-InputCode-clause-early g c fault =
+    let end = c.in_err-text-in-InputCode.field-0.0 in
+    let is : c.from_residual-in_err-text-in-InputCode.result ≡ Err end = search rules in
+    let same : end ≡ ReadFault = cc in
+    subject_within c.args.command (g.D.Desk.input c.args.desk.now) _ InputCode (sym c.subject.ensures ∙ c.in-InputCode.is)
+    (c.code_input.ensures.early (c.in_err-text-in-InputCode.was ∙ ap Err same))
+
+pub returns-in_ok-text-in-InputCode-clause-early : goal.returns-in_ok-text-in-InputCode-clause-early
+returns-in_ok-text-in-InputCode-clause-early g c fault =
+    let read = c.in_ok-text-in-InputCode.ensures in
+    subject_within c.args.command (g.D.Desk.input c.args.desk.now) _ InputCode (sym c.subject.ensures ∙ c.in-InputCode.is)
+    (whole_within (g.D.Desk.input c.args.desk.now) _ _ _ 20000000 read.told read.short read.whole c.exec_on_file.ensures.same_input)
+
 -- ---- a trial kernel
 
 pub trial-requires : goal.trial-requires
@@ -77,3 +107,7 @@ returns-in_err-kernel-in-TrialKernel-clause-rest_left g c = idle_leaves (g.D.Des
 
 pub returns-in_ok-kernel-in-TrialKernel-clause-rest_left : goal.returns-in_ok-kernel-in-TrialKernel-clause-rest_left
 returns-in_ok-kernel-in-TrialKernel-clause-rest_left g c = idle_leaves (g.D.Desk.input c.args.desk.now) _ c.kernel_answer-in-TrialKernel.ensures.same_input
+
+pub returns-in_ok-kernel-in-TrialKernel-clause-early : goal.returns-in_ok-kernel-in-TrialKernel-clause-early
+returns-in_ok-kernel-in-TrialKernel-clause-early g c fault =
+    idle_within (g.D.Desk.input c.args.desk.now) _ (input_limit (Some c.args.command)) c.kernel_answer-in-TrialKernel.ensures.same_input

@@ -1,6 +1,7 @@
 -- What answers the command that the words spell answers the words.
+use Rattle.desk_io.specs.Known.{TookAtMost}
 use Rattle.std.proofs.Common.{refl, Err, sym, ap, subst, inr}
-use Rattle.pebble_cli.specs.Faults.{ReadCause}
+use Rattle.pebble_cli.specs.Faults.{ReadCause, input_limit}
 use Rattle.command_answers.specs.MadeAnswers.{IfAnswer}
 use Rattle.pebble_cli.specs.InputAnswers.{AnswersInput}
 use Rattle.command_words.specs.Words.{asked_by}
@@ -34,3 +35,8 @@ returns-in-Err-ReadFault-clause-refusal g c =
 
 pub returns-in-None-clause-rest_left : goal.returns-in-None-clause-rest_left
 returns-in-None-clause-rest_left g c = idle_leaves (g.D.Desk.input c.args.desk.now) _ refl
+
+pub returns-in-Err-ReadFault-clause-early : goal.returns-in-Err-ReadFault-clause-early
+returns-in-Err-ReadFault-clause-early g c fault =
+    subst (λ k. TookAtMost (g.D.Desk.input c.args.desk.now) (g.D.Desk.input c.command_answer.new.desk) (input_limit k)) c.in-Some.ensures.value
+    (c.in-Err-ReadFault.ensures.early (ap Err c.in-Err-ReadFault.field-0-is))

@@ -1,5 +1,5 @@
 -- What the answer that was made says of the run: where it was delivered, where a write failed, and where there is none.
-use Rattle.std.proofs.Common.{◌≡◌, ◌∙◌, inl, inr, refl, subst, sym}
+use Rattle.std.proofs.Common.{◌≡◌, ◌∙◌, Err, inl, inr, refl, ap, subst, sym}
 use Rattle.desk_io.specs.Known.{file_items}
 use Rattle.pebble_cli.specs.Answers.{Answers, LastAnswers, IsAdmitted}
 use Rattle.command_words.specs.Words.{asked_by}
@@ -53,6 +53,11 @@ returns-in-Ok-deliver-clause-write_fault g c fault =
 
 pub returns-in-Ok-deliver-clause-read_fault : goal.returns-in-Ok-deliver-clause-read_fault
 returns-in-Ok-deliver-clause-read_fault g c fault =
+    let none = no_fault _ _ _ _ _ _ c.in-Ok.ensures.answers.2 in
+    absurd (none.0 fault)
+
+pub returns-in-Ok-deliver-clause-read_early : goal.returns-in-Ok-deliver-clause-read_early
+returns-in-Ok-deliver-clause-read_early g c fault =
     let none = no_fault _ _ _ _ _ _ c.in-Ok.ensures.answers.2 in
     absurd (none.0 fault)
 
@@ -179,6 +184,9 @@ returns-clause-rest_left g c = still_leaves (g.D.Desk.input c.args.desk.now) _ _
 
 pub returns-in-Err-clause-read_fault : goal.returns-in-Err-clause-read_fault
 returns-in-Err-clause-read_fault g c fault = cause_of_end _ _ c.in-Err.ensures.refusal fault
+
+pub returns-in-Err-clause-read_early : goal.returns-in-Err-clause-read_early
+returns-in-Err-clause-read_early g c fault = c.in-Err.ensures.early (ap Err fault)
 
 pub returns-in-Err-clause-headline : goal.returns-in-Err-clause-headline
 returns-in-Err-clause-headline g c asked asks verdict = end_is_no_verdict _ _ c.in-Err.ensures.refusal verdict

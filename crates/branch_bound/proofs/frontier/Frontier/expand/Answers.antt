@@ -1,4 +1,4 @@
-use Rattle.std.proofs.Common.{◌≤◌, length, sym, ap, ◌∙◌, subst, arith}
+use Rattle.std.proofs.Common.{length, sym, ap, ◌∙◌, subst, arith}
 use Rattle.comp_graph.specs.Games.{game_of}
 use Rattle.normal_steps.specs.Sound.{IsSound}
 use Rattle.branch_bound.specs.Frontiers.{IsTrying}
@@ -6,7 +6,7 @@ use Rattle.branch_bound.proofs.StepLaws.{same_steps, few_steps, trying_none, nex
 use Rattle.branch_bound.proofs.frontier.Frontier.expand.Goals as goal
 
 pub loop-step-init : goal.loop-step-init
-loop-step-init c =
+loop-step-init g c =
     let game = c.args.game.now in
     let p = c.position-p.result in
     let costs = ap (λ h. h.cost) c.head-cost.ensures in
@@ -23,39 +23,39 @@ loop-step-init c =
     }
 
 pub try_step-requires-clause-frontier : goal.try_step-requires-clause-frontier
-try_step-requires-clause-frontier c = c.loop-step.invariant.trying.tried.frontier
+try_step-requires-clause-frontier g c = c.loop-step.invariant.trying.tried.frontier
 
 pub try_step-requires-clause-wide : goal.try_step-requires-clause-wide
-try_step-requires-clause-wide c = c.loop-step.invariant.trying.wide
+try_step-requires-clause-wide g c = c.loop-step.invariant.trying.wide
 
 pub try_step-requires-clause-expanding : goal.try_step-requires-clause-expanding
-try_step-requires-clause-expanding c = c.loop-step.invariant.trying.expanding
+try_step-requires-clause-expanding g c = c.loop-step.invariant.trying.expanding
 
 pub try_step-requires-clause-position : goal.try_step-requires-clause-position
-try_step-requires-clause-position c = c.loop-step.invariant.trying.position
+try_step-requires-clause-position g c = c.loop-step.invariant.trying.position
 
 pub try_step-requires-clause-cost : goal.try_step-requires-clause-cost
-try_step-requires-clause-cost c = c.loop-step.invariant.trying.costs
+try_step-requires-clause-cost g c = c.loop-step.invariant.trying.costs
 
 pub try_step-requires-clause-current : goal.try_step-requires-clause-current
-try_step-requires-clause-current c = c.loop-step.invariant.trying.current
+try_step-requires-clause-current g c = c.loop-step.invariant.trying.current
 
 pub try_step-requires-clause-sound : goal.try_step-requires-clause-sound
-try_step-requires-clause-sound c = subst (IsSound (game_of c.args.game.now)) (sym c.position-p.ensures) c.requires.sound
+try_step-requires-clause-sound g c = subst (IsSound (game_of c.args.game.now)) (sym c.position-p.ensures) c.requires.sound
 
 pub try_step-requires-clause-legal : goal.try_step-requires-clause-legal
-try_step-requires-clause-legal c =
+try_step-requires-clause-legal g c =
     next_legal c.args.game.now c.requires.game c.args.k c.position-p.result c.head-cost.result.cost c.args.self.now c.args.best.now c.loop-step.self c.loop-step.best c.in-Some.step c.next.new.self
     (subst (IsTrying c.args.game.now c.args.k c.position-p.result c.head-cost.result.cost c.args.self.now c.loop-step.self c.args.best.now c.loop-step.best) c.in-Some.ensures.steps c.loop-step.invariant.trying)
     (subst (IsSound (game_of c.args.game.now)) (sym c.position-p.ensures) c.requires.sound)
 
 pub try_step-requires-clause-room : goal.try_step-requires-clause-room
-try_step-requires-clause-room c =
+try_step-requires-clause-room g c =
     next_room c.args.game.now c.requires.game c.args.k c.position-p.result c.head-cost.result.cost c.args.self.now c.args.best.now c.loop-step.self c.loop-step.best c.in-Some.step c.next.new.self
     (subst (IsTrying c.args.game.now c.args.k c.position-p.result c.head-cost.result.cost c.args.self.now c.loop-step.self c.args.best.now c.loop-step.best) c.in-Some.ensures.steps c.loop-step.invariant.trying)
 
 pub loop-step-preserved : goal.loop-step-preserved
-loop-step-preserved c = record {
+loop-step-preserved g c = record {
   can_next = tt;
   is_finite = tt;
   trying = trying_more c.args.game.now c.requires.game c.args.k c.position-p.result c.head-cost.result.cost c.args.self.now c.args.best.now c.loop-step.self c.loop-step.best c.in-Some.step c.next.new.self
@@ -63,8 +63,8 @@ loop-step-preserved c = record {
       c.try_step.new.self c.try_step.new.best c.in_ok-try_step.ensures;
 }
 
-pub returns : goal.returns
-returns c =
+pub returns-clause-expanded : goal.returns-clause-expanded
+returns-clause-expanded g c =
     let game = c.args.game.now in
     let p = c.position-p.result in
     let sound = subst (IsSound (game_of game)) (sym c.position-p.ensures) c.requires.sound in

@@ -1,4 +1,4 @@
-use Rattle.std.proofs.Common.{◌+◌, ◌<◌, ◌∙◌, length, sym, ap, subst, arith}
+use Rattle.std.proofs.Common.{◌+◌, ◌<◌, sym, ap, subst, arith}
 use Rattle.comp_graph.specs.Games.{game_of}
 use Rattle.comp_graph.proofs.GraphLaws.{IsDag-dag_of}
 use Rattle.normal_steps.specs.Sound.{IsSound}

@@ -1,5 +1,6 @@
 -- The names of statements: of assignments, loops and branches.
-use Rattle.std.proofs.Common.{rules, ◌≡◌, ◌+◌, ◌++◌, ◌∷◌, [], IfOk, IfErr, length, drop, append_assoc, sym, ap, subst, ◌∙◌}
+use Rattle.std.proofs.Common.{rules, ◌≡◌, ◌+◌, ◌++◌, ◌∷◌, [], OnOk, IfOk, IfErr, length, drop, append_assoc, sym, ap, subst, ◌∙◌}
+use Rattle.kernel_syntax.specs.declared.raw.RawStmt.TheVariants as raw_stmt
 use Rattle.kernel_parser.specs.Names as spec
 use Rattle.kernel_parser.specs.Resolved as tree
 use Rattle.kernel_parser.specs.RawFits.{stmt_fits, body_fits}
@@ -28,66 +29,82 @@ stmt-returns-in-Assign-clause-fault t c =
     ∙ sym (ap (λ r. spec.stmt_faults s.text.now (entries s) r l) c.in-Assign.is) in
     subst (λ z. IfErr c.assignment.result (EndsAt z)) e c.assignment.ensures.fault
 
-pub stmt-returns-in_err-from-in-Loop-clause-fault : goal.stmt-returns-in_err-from-in-Loop-clause-fault
-stmt-returns-in_err-from-in-Loop-clause-fault t c =
+pub stmt-returns-in-Loop-clause-faultless : goal.stmt-returns-in-Loop-clause-faultless
+stmt-returns-in-Loop-clause-faultless t c =
     let s = c.args.self.now in
     let l = c.args.loops.now.items in
-    let e = loop_has_faults s.text.now (entries s) l c.in-Loop.header c.in-Loop.body in
-    let here : EndsAt (spec.header_faults (known_under s l) c.in-Loop.header) c.in_err-from-in-Loop.field-0.0
-    = subst (λ ls. EndsAt (spec.header_faults (known_under s ls) c.in-Loop.header) c.in_err-from-in-Loop.field-0.0) c.as_slice-in-Loop.ensures.value c.in_err-from-in-Loop.ensures.fault in
-    let whole : EndsAt (spec.stmt_faults s.text.now (entries s) c.args.raw.now l) c.in_err-from-in-Loop.field-0.0
-    = subst (λ r. EndsAt (spec.stmt_faults s.text.now (entries s) r l) c.in_err-from-in-Loop.field-0.0) (sym c.in-Loop.is)
-    (subst (λ z. EndsAt z c.in_err-from-in-Loop.field-0.0) (sym e) (ends_first _ _ c.in_err-from-in-Loop.field-0.0 here)) in
+    let e = ap (λ b. raw_stmt.Loop c.in-Loop.header b) c.as_slice-in-Loop.ensures ∙ sym c.in-Loop.is in
+    subst (λ r. OnOk c.looped.result (spec.stmt_faults s.text.now (entries s) r l ≡ [])) e c.looped.ensures.faultless
+
+pub stmt-returns-in-Loop-clause-tree : goal.stmt-returns-in-Loop-clause-tree
+stmt-returns-in-Loop-clause-tree t c =
+    let s = c.args.self.now in
+    let l = c.args.loops.now.items in
+    let e = ap (λ b. raw_stmt.Loop c.in-Loop.header b) c.as_slice-in-Loop.ensures ∙ sym c.in-Loop.is in
+    subst (λ r. IfOk c.looped.result (λ t'. t' ≡ tree.stmt_of s.text.now (entries s) r l)) e c.looped.ensures.tree
+
+pub stmt-returns-in-Loop-clause-fault : goal.stmt-returns-in-Loop-clause-fault
+stmt-returns-in-Loop-clause-fault t c =
+    let s = c.args.self.now in
+    let l = c.args.loops.now.items in
+    let e = ap (λ b. raw_stmt.Loop c.in-Loop.header b) c.as_slice-in-Loop.ensures ∙ sym c.in-Loop.is in
+    subst (λ r. IfErr c.looped.result (EndsAt (spec.stmt_faults s.text.now (entries s) r l))) e c.looped.ensures.fault
+
+pub looped-returns-in_err-resolved-clause-fault : goal.looped-returns-in_err-resolved-clause-fault
+looped-returns-in_err-resolved-clause-fault t c =
+    let s = c.args.self.now in
+    let l = c.args.loops.now.items in
+    let h = c.args.header.now in
+    let o = c.in_err-resolved.field-0.0 in
+    let e = loop_has_faults s.text.now (entries s) l h c.args.body.now in
+    let here : EndsAt (spec.header_faults (known_under s l) h) o
+    = subst (λ ls. EndsAt (spec.header_faults (known_under s ls) h) o) c.as_slice.ensures.value c.in_err-resolved.ensures.fault in
+    let whole : EndsAt (spec.stmt_faults s.text.now (entries s) (raw_stmt.Loop h c.args.body.now) l) o = subst (λ z. EndsAt z o) (sym e) (ends_first _ _ o here) in
     search rules
 
-pub stmt-returns-in_err-body-in-Loop-clause-fault : goal.stmt-returns-in_err-body-in-Loop-clause-fault
-stmt-returns-in_err-body-in-Loop-clause-fault t c =
+pub looped-returns-in_err-body-clause-fault : goal.looped-returns-in_err-body-clause-fault
+looped-returns-in_err-body-clause-fault t c =
     let s = c.args.self.now in
     let l = c.args.loops.now.items in
-    let h = c.in-Loop.header in
-    let o = c.in_err-body-in-Loop.field-0.0 in
-    let e = loop_has_faults s.text.now (entries s) l h c.in-Loop.body in
-    let inner = c.in_ok-push-in-Loop.ensures.items ∙ ap (λ n. l ++ n ∷ []) c.in_ok-name_of-in-Loop.ensures in
-    let none : spec.header_faults (known_under s l) h ≡ [] = subst (λ ls. spec.header_faults (known_under s ls) h ≡ []) c.as_slice-in-Loop.ensures.value c.in_ok-from-in-Loop.ensures.faultless in
-    let here : EndsAt (spec.body_faults s.text.now (entries s) c.in-Loop.body (l ++ spec.word s.text.now h.name ∷ [])) o
-    = subst (λ b. EndsAt (spec.body_faults s.text.now (entries s) b (l ++ spec.word s.text.now h.name ∷ [])) o) c.as_slice-in-Loop-2.ensures
-    (subst (λ ls. EndsAt (spec.body_faults s.text.now (entries s) c.as_slice-in-Loop-2.result.now ls) o) inner c.in_err-body-in-Loop.ensures.fault) in
-    let whole : EndsAt (spec.stmt_faults s.text.now (entries s) c.args.raw.now l) o
-    = subst (λ r. EndsAt (spec.stmt_faults s.text.now (entries s) r l) o) (sym c.in-Loop.is) (subst (λ z. EndsAt z o) (sym e) (ends_later _ _ o none here)) in
+    let h = c.args.header.now in
+    let o = c.in_err-body.field-0.0 in
+    let e = loop_has_faults s.text.now (entries s) l h c.args.body.now in
+    let inner = c.in_ok-enter.ensures in
+    let none : spec.header_faults (known_under s l) h ≡ [] = subst (λ ls. spec.header_faults (known_under s ls) h ≡ []) c.as_slice.ensures.value c.in_ok-resolved.ensures.faultless in
+    let here : EndsAt (spec.body_faults s.text.now (entries s) c.args.body.now (l ++ spec.word s.text.now h.name ∷ [])) o
+    = subst (λ ls. EndsAt (spec.body_faults s.text.now (entries s) c.args.body.now ls) o) inner c.in_err-body.ensures.fault in
+    let whole : EndsAt (spec.stmt_faults s.text.now (entries s) (raw_stmt.Loop h c.args.body.now) l) o = subst (λ z. EndsAt z o) (sym e) (ends_later _ _ o none here) in
     search rules
 
-pub stmt-returns-in_ok-body-in-Loop-clause-faultless : goal.stmt-returns-in_ok-body-in-Loop-clause-faultless
-stmt-returns-in_ok-body-in-Loop-clause-faultless t c =
+pub looped-returns-clause-faultless : goal.looped-returns-clause-faultless
+looped-returns-clause-faultless t c =
     let s = c.args.self.now in
     let l = c.args.loops.now.items in
-    let h = c.in-Loop.header in
-    let e = loop_has_faults s.text.now (entries s) l h c.in-Loop.body in
-    let inner = c.in_ok-push-in-Loop.ensures.items ∙ ap (λ n. l ++ n ∷ []) c.in_ok-name_of-in-Loop.ensures in
-    let none : spec.header_faults (known_under s l) h ≡ [] = subst (λ ls. spec.header_faults (known_under s ls) h ≡ []) c.as_slice-in-Loop.ensures.value c.in_ok-from-in-Loop.ensures.faultless in
-    let here : spec.body_faults s.text.now (entries s) c.in-Loop.body (l ++ spec.word s.text.now h.name ∷ []) ≡ []
-    = subst (λ b. spec.body_faults s.text.now (entries s) b (l ++ spec.word s.text.now h.name ∷ []) ≡ []) c.as_slice-in-Loop-2.ensures
-    (subst (λ ls. spec.body_faults s.text.now (entries s) c.as_slice-in-Loop-2.result.now ls ≡ []) inner c.in_ok-body-in-Loop.ensures.faultless) in
-    ap (λ r. spec.stmt_faults s.text.now (entries s) r l) c.in-Loop.is ∙ e ∙ ap (λ z. z ++ spec.body_faults s.text.now (entries s) c.in-Loop.body (l ++ spec.word s.text.now h.name ∷ [])) none ∙ here
+    let h = c.args.header.now in
+    let e = loop_has_faults s.text.now (entries s) l h c.args.body.now in
+    let inner = c.in_ok-enter.ensures in
+    let none : spec.header_faults (known_under s l) h ≡ [] = subst (λ ls. spec.header_faults (known_under s ls) h ≡ []) c.as_slice.ensures.value c.in_ok-resolved.ensures.faultless in
+    let here : spec.body_faults s.text.now (entries s) c.args.body.now (l ++ spec.word s.text.now h.name ∷ []) ≡ []
+    = subst (λ ls. spec.body_faults s.text.now (entries s) c.args.body.now ls ≡ []) inner c.in_ok-body.ensures.faultless in
+    e ∙ ap (λ z. z ++ spec.body_faults s.text.now (entries s) c.args.body.now (l ++ spec.word s.text.now h.name ∷ [])) none ∙ here
 
-pub stmt-returns-in_ok-body-in-Loop-clause-tree : goal.stmt-returns-in_ok-body-in-Loop-clause-tree
-stmt-returns-in_ok-body-in-Loop-clause-tree t c =
+pub looped-returns-clause-tree : goal.looped-returns-clause-tree
+looped-returns-clause-tree t c =
     let s = c.args.self.now in
     let l = c.args.loops.now.items in
-    let h = c.in-Loop.header in
-    let e = loop_gives s.text.now (entries s) l h c.in-Loop.body in
-    let inner = c.in_ok-push-in-Loop.ensures.items ∙ ap (λ n. l ++ n ∷ []) c.in_ok-name_of-in-Loop.ensures in
-    let from = c.in_ok-from-in-Loop.ensures.from ∙ ap (λ ls. tree.index_of (known_under s ls) h.from) c.as_slice-in-Loop.ensures.value in
-    let to = c.in_ok-from-in-Loop.ensures.to ∙ ap (λ ls. tree.index_of (known_under s ls) h.to) c.as_slice-in-Loop.ensures.value in
-    let by = c.in_ok-from-in-Loop.ensures.by ∙ ap (λ ls. tree.step_of (known_under s ls) h.by) c.as_slice-in-Loop.ensures.value in
-    let body = c.in_ok-body-in-Loop.ensures.tree
-    ∙ ap (λ b. tree.body_of s.text.now (entries s) b c.push.new.self.items) c.as_slice-in-Loop-2.ensures
-    ∙ ap (λ ls. tree.body_of s.text.now (entries s) c.in-Loop.body ls) inner in
+    let h = c.args.header.now in
+    let e = loop_gives s.text.now (entries s) l h c.args.body.now in
+    let inner = c.in_ok-enter.ensures in
+    let from = c.in_ok-resolved.ensures.from ∙ ap (λ ls. tree.index_of (known_under s ls) h.from) c.as_slice.ensures.value in
+    let to = c.in_ok-resolved.ensures.to ∙ ap (λ ls. tree.index_of (known_under s ls) h.to) c.as_slice.ensures.value in
+    let by = c.in_ok-resolved.ensures.by ∙ ap (λ ls. tree.step_of (known_under s ls) h.by) c.as_slice.ensures.value in
+    let body = c.in_ok-body.ensures.tree ∙ ap (λ ls. tree.body_of s.text.now (entries s) c.args.body.now ls) inner in
     let known = known_under s l in
-    ap (λ x. stmt.Loop x c.in_ok-from-in-Loop.field-0.to c.in_ok-from-in-Loop.field-0.by c.in_ok-body-in-Loop.body h.at) from
-    ∙ ap (λ x. stmt.Loop (tree.index_of known h.from) x c.in_ok-from-in-Loop.field-0.by c.in_ok-body-in-Loop.body h.at) to
-    ∙ ap (λ x. stmt.Loop (tree.index_of known h.from) (tree.index_of known h.to) x c.in_ok-body-in-Loop.body h.at) by
+    ap (λ x. stmt.Loop x c.in_ok-resolved.resolved.to c.in_ok-resolved.resolved.by c.in_ok-body.body h.at) from
+    ∙ ap (λ x. stmt.Loop (tree.index_of known h.from) x c.in_ok-resolved.resolved.by c.in_ok-body.body h.at) to
+    ∙ ap (λ x. stmt.Loop (tree.index_of known h.from) (tree.index_of known h.to) x c.in_ok-body.body h.at) by
     ∙ ap (λ x. stmt.Loop (tree.index_of known h.from) (tree.index_of known h.to) (tree.step_of known h.by) x h.at) body
-    ∙ sym e ∙ sym (ap (λ r. tree.stmt_of s.text.now (entries s) r l) c.in-Loop.is)
+    ∙ sym e
 
 pub stmt-returns-in_err-left-in-Branch-clause-fault : goal.stmt-returns-in_err-left-in-Branch-clause-fault
 stmt-returns-in_err-left-in-Branch-clause-fault t c =

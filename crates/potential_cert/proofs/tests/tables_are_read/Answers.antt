@@ -1,5 +1,0 @@
-use Rattle.potential_cert.proofs.Written.{in_range}
-use Rattle.potential_cert.proofs.tests.tables_are_read.Goals as goal
-
-pub write_table-requires : goal.write_table-requires
-write_table-requires g c = in_range c.in-Ok.table c.in-Ok.ensures.ok.fits
