@@ -3,8 +3,9 @@
 # is more than any plan has; and the check of a table against the plan that makes it, with 150,000 rows of a kernel of 100 vertices. Prints
 # the mean time of a run and, where /usr/bin/time tells it, the most memory of one. It checks nothing and is no part of the gate. PEBBLE
 # names another program.
-here=$(CDPATH= cd -- "$(dirname -- "$0")/.." && pwd) || exit 1
-pebble=${PEBBLE:-$here/pebble}
+here=$(CDPATH='' cd -- "$(dirname -- "$0")/.." && pwd) || exit 1
+pebble=${PEBBLE:-$("$here/tools/current_program")}
+[ -n "$pebble" ] || exit 70
 runs=${RUNS:-20}
 export PEBBLE_QUIET=1
 folder=$(mktemp -d) || exit 1

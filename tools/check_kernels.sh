@@ -5,8 +5,9 @@
 # (tools/code_to_c.py), the costs of a cache against tools/compare_cache.py, and docs/KERNELS.md and the tests of crates/worked_kernels
 # against the kernels. The exit status is 0 where all agrees, or where there is no python3 to check with. PEBBLE names another program than
 # the one at the top of the repository.
-here=$(CDPATH= cd -- "$(dirname -- "$0")/.." && pwd) || exit 1
-pebble=${PEBBLE:-$here/pebble}
+here=$(CDPATH='' cd -- "$(dirname -- "$0")/.." && pwd) || exit 1
+pebble=${PEBBLE:-$("$here/tools/current_program")}
+[ -n "$pebble" ] || exit 70
 run_code=$here/tools/run_code.py
 export PEBBLE_QUIET=1
 

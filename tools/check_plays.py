@@ -31,7 +31,7 @@ sys.path.insert(0, os.path.join(TOP, 'tools'))
 import run_code
 from check_trials import trial_text
 
-PEBBLE = os.environ.get('PEBBLE', os.path.join(TOP, 'pebble'))
+PEBBLE = run_code.program()
 DONE, KERNEL, TOO_SMALL, READ_FAULT, PLAY = 0, 3, 4, 6, 12  # statuses
 WORDS = ('load', 'store', 'compute', 'drop', 'unblue')
 LONGEST = 20_000_000

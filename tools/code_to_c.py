@@ -23,6 +23,7 @@ from run_code import Disagrees, LEAST, demand, read_code, run
 WRAPPING = {'add': '+', 'sub': '-', 'mul': '*'}
 BITWISE = {'and': '&', 'or': '|', 'xor': '^'}
 TWICE_READ = {'min': '<', 'max': '>'}
+FAULT_LINE = re.compile(r'(?:kernel|code|values|exec|play) (?:fault|incomplete)|too small needs|refused reason|usage: pebble')
 KEYWORDS = set('auto break case char const continue default do double else enum extern float for goto if inline int long register restrict '
                'return short signed sizeof static struct switch typedef union unsigned void volatile while main in out slot word'.split())
 
@@ -101,6 +102,7 @@ def main(words):
         return 2
     try:
         text = sys.stdin.buffer.read().decode()
+        demand(not FAULT_LINE.match(text), f'this is what pebble printed at a fault, and no code: {text[:60].strip()}')
         demand(text == '' or text.endswith('\n'), 'the last line does not end')
         code = read_code([line for line in text.split('\n')[:-1] if not line.startswith(';')])
         demand(len(code.inputs) <= code.words, 'there are more inputs than words')

@@ -23,7 +23,7 @@ TOP = os.path.dirname(os.path.dirname(os.path.abspath(__file__)))
 sys.path.insert(0, os.path.join(TOP, 'tools'))
 import run_code
 
-PEBBLE = os.environ.get('PEBBLE', os.path.join(TOP, 'pebble'))
+PEBBLE = run_code.program()
 OPTIMAL, OPEN = 0, 5  # the statuses of a plan
 DOCUMENT = os.path.join(TOP, 'docs', 'KERNELS.md')
 

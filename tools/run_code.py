@@ -28,6 +28,7 @@ import operator
 import os
 import re
 import struct
+import subprocess
 import sys
 from collections import namedtuple
 
@@ -62,6 +63,16 @@ class Disagrees(Exception):
 def demand(holds, what):
     if not holds:
         raise Disagrees(what)
+
+
+def program():
+    """The program that PEBBLE names, or else the one that ./pebble runs."""
+    if 'PEBBLE' in os.environ:
+        return os.environ['PEBBLE']
+    done = subprocess.run([os.path.join(os.path.dirname(os.path.realpath(__file__)), 'current_program')], stdout=subprocess.PIPE, check=False)
+    if done.returncode:
+        sys.exit(done.returncode)
+    return os.fsdecode(done.stdout.rstrip(b'\n'))
 
 
 def wrapped(number):

@@ -3,7 +3,8 @@
 # for each the rows that were made, the time of the whole run, and where /usr/bin/time tells it, the most memory. Runs of less than 0.02 s
 # say more of the start of a program than of the search. It checks nothing and is no part of the gate. PEBBLE names another program.
 here=$(CDPATH='' cd -- "$(dirname -- "$0")/.." && pwd) || exit 1
-pebble=${PEBBLE:-$here/pebble}
+pebble=${PEBBLE:-$("$here/tools/current_program")}
+[ -n "$pebble" ] || exit 70
 budget=${1:-20000}
 folder=$(mktemp -d) || exit 1
 trap 'rm -rf "$folder"' EXIT
