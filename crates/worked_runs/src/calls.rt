@@ -6,7 +6,7 @@ use command_words::file_word;
 use desk_io::MemoryDesk;
 use example_runs::words_of;
 use pebble_cli::pebble;
-use std::alloc::Global;
+use std::alloc::{AllocError, Global};
 use std::process::Abort;
 use std::test::Fail;
 
@@ -60,13 +60,20 @@ fn rows() -> &'static [(&'static str, &'static str, [u32; 5])] {
 /// A text of 65,537 bytes or more is taken in 17 pieces of 4,096 bytes, whatever stands behind them.
 #[test]
 fn calls_for_a_long_input(rt: HostRuntime) -> Result<(), Fail> {
-    let mut text = Vec::new(rt.alloc());
-    for _ in 0..70_000 {
+    for length in [65_537, 70_000] {
+        let text = spaces(rt.alloc(), length)?;
+        assert!(rt; calls_of(&rt, rt.alloc(), "graph", &text)? == [17, 0, 1, 0, 0]);
+    }
+    Ok(())
+}
+
+// A text of so many spaces.
+fn spaces(alloc: Global, length: u32) -> Result<Vec<u8>, AllocError> {
+    let mut text = Vec::new(alloc);
+    for _ in 0..length {
         text.push(b' ')?;
     }
-    assert!(rt; calls_of(&rt, rt.alloc(), "graph", &text[..65_537])? == [17, 0, 1, 0, 0]);
-    assert!(rt; calls_of(&rt, rt.alloc(), "graph", &text)? == [17, 0, 1, 0, 0]);
-    Ok(())
+    Ok(text)
 }
 
 // The calls that the words of a line make of a desk whose file holds `5`, and on which none fails.
