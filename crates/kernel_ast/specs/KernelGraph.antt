@@ -11,7 +11,7 @@ use Rattle.kernel_ast.specs.declared.element.Fault.{Fault}
 use Rattle.kernel_ast.specs.KernelParts.{KernelParts}
 use Rattle.kernel_ast.specs.Steps.{and_then}
 use Rattle.kernel_ast.specs.Labels.{labels_of}
-use Rattle.kernel_ast.specs.Meaning.{Entry, meaning}
+use Rattle.kernel_ast.specs.Meaning.{Entry, kernel_meaning}
 
 -- three operands, with the constant 0 in the places that are left
 abbrev pub padded : List Operand → List Operand
@@ -44,4 +44,4 @@ graph_by k r = record {
 
 -- the graph of a kernel, or its first fault
 abbrev pub graph_of : KernelParts → Result GraphParts Fault
-graph_of k = and_then (meaning k) (λ r. Ok (graph_by k (map (λ h. h.origin) r.0, r.1)))
+graph_of k = and_then (kernel_meaning k) (λ r. Ok (graph_by k (map (λ h. h.origin) r.0, r.1)))

@@ -5,7 +5,7 @@ use Rattle.comp_graph.specs.declared.operation.Op.{Op}
 use Rattle.comp_graph.specs.declared.operation.Op.TheVariants.{Input, Set}
 use Rattle.comp_graph.specs.declared.node.Operand.{Operand}
 use Rattle.comp_graph.specs.declared.node.Operand.TheVariants.{Vertex, Const}
-use Rattle.comp_graph.specs.Operations.{value_of}
+use Rattle.comp_graph.specs.Operations.{value_at}
 use Rattle.kernel_ast.specs.declared.element.Fault.{Fault}
 use Rattle.kernel_ast.specs.declared.rule.RunRule.TheVariants.{TooManyVertices}
 use Rattle.kernel_ast.specs.KernelParts.{KernelParts}
@@ -41,10 +41,6 @@ add_constant o ns = None
 abbrev pub constants : List Operand → Option (List ℤ)
 constants [] = Some []
 constants (o ∷ os) = add_constant o (constants os)
-
--- the value of an operation at the first numbers of a list
-abbrev pub value_at : Op → List ℤ → ℤ
-value_at op ns = value_of op (slice_index_or ns 0 (pos 0)) (slice_index_or ns 1 (pos 0)) (slice_index_or ns 2 (pos 0))
 
 -- an operation on constants alone is a constant, and each other one is appended
 abbrev pub fold_or_append : Op → ℕ → List Operand → Option (List ℤ) → Run Operand (List Entry)
@@ -91,8 +87,8 @@ abbrev pub numbered_input : ℕ → Run Held (List Entry)
 numbered_input at log = and_then (input_origin at log) (with_number (λ values. slice_index_or values (length log) (pos 0)))
 
 -- what the output elements hold, and the log: first comes the whole walk, and then the values
-abbrev pub meaning : KernelParts → Result (List Held × List Entry) Fault
-meaning k = and_then (walk_all k.decls k.body) (λ _. run_all numbered numbered_input k [])
+abbrev pub kernel_meaning : KernelParts → Result (List Held × List Entry) Fault
+kernel_meaning k = and_then (walk_all k.decls k.body) (λ _. run_all numbered numbered_input k [])
 
 -- the fault of a result, if it is one
 abbrev pub fault_of : {A : Type 0} → Result A Fault → Option Fault
@@ -101,7 +97,7 @@ fault_of (Err f) = Some f
 
 -- the first fault of a kernel's run, if it has one
 abbrev pub shape_fault : KernelParts → Option Fault
-shape_fault k = fault_of (meaning k)
+shape_fault k = fault_of (kernel_meaning k)
 
 -- the log of a result
 abbrev pub log_of : Result (List Held × List Entry) Fault → List Entry
@@ -110,7 +106,7 @@ log_of (Err f) = []
 
 -- the log of a kernel without fault
 abbrev pub log : KernelParts → List Entry
-log k = log_of (meaning k)
+log k = log_of (kernel_meaning k)
 
 -- what the output elements of a result hold
 abbrev pub held_of : Result (List Held × List Entry) Fault → List Held
@@ -119,4 +115,4 @@ held_of (Err f) = []
 
 -- the numbers of the output elements of a kernel without fault, for these values of the inputs
 abbrev pub outputs : KernelParts → List ℤ → List ℤ
-outputs k values = map (λ h. h.number values) (held_of (meaning k))
+outputs k values = map (λ h. h.number values) (held_of (kernel_meaning k))

@@ -58,26 +58,26 @@ index_chain total (l ∷ ls) = then_small l.1 (λ n. then_small (small (index_va
 
 -- the index of the k-th open loop from outside
 abbrev pub turn : List ℤ → ℕ → ℤ
-turn turns k = slice_index_or turns k (pos 0)
+turn indices k = slice_index_or indices k (pos 0)
 
 -- one layer of an index: each number, and the value of each minus and operator, must be small
 abbrev pub index_step : List ℤ → IndexTree-F (Option ℤ) (Op × Option ℤ) → Option ℤ
-index_step turns (Number n) = small n
-index_step turns (Turn k) = Some (turn turns k)
-index_step turns (Minus value) = then_small value (λ n. small (neg_ℤ n))
-index_step turns (Chain first rest) = then_small first (λ n. index_chain n rest)
+index_step indices (Number n) = small n
+index_step indices (Turn k) = Some (turn indices k)
+index_step indices (Minus value) = then_small value (λ n. small (neg_ℤ n))
+index_step indices (Chain first rest) = then_small first (λ n. index_chain n rest)
 
 -- an operator of an index, with the value of its right operand
 abbrev pub index_link_step : IndexLink-F (Option ℤ) (Op × Option ℤ) → Op × Option ℤ
 index_link_step l = (l.op, l.value)
 
--- the value of an index's tree while the open loops stand at these turns, or none where a value on the way is not small
+-- the value of an index's tree while the open loops stand at these indices, or none if a value on the way is not small
 abbrev pub index_value : List ℤ → IndexTree → Option ℤ
-index_value turns = fold-IndexTree (Option ℤ) (Op × Option ℤ) (index_step turns) index_link_step
+index_value indices = fold-IndexTree (Option ℤ) (Op × Option ℤ) (index_step indices) index_link_step
 
 -- the same of an operator with its right operand
 abbrev pub index_link : List ℤ → IndexLink → Op × Option ℤ
-index_link turns = fold-IndexLink (Option ℤ) (Op × Option ℤ) (index_step turns) index_link_step
+index_link indices = fold-IndexLink (Option ℤ) (Op × Option ℤ) (index_step indices) index_link_step
 
 -- what there is, or else this fault
 abbrev pub ok_or_fault : {A : Type 0} → Fault → Option A → Result A Fault
@@ -86,7 +86,7 @@ ok_or_fault f (Some a) = Ok a
 
 -- the value of an index, or its fault
 abbrev pub value_of_index : List ℤ → Index → Result ℤ Fault
-value_of_index turns i = ok_or_fault (big_index i.at) (index_value turns i.tree)
+value_of_index indices i = ok_or_fault (big_index i.at) (index_value indices i.tree)
 
 -- the value of a step is below 1; at the first token of the step
 abbrev pub bad_step : ℕ → Fault
@@ -98,13 +98,13 @@ tested_step at n = if int_le (pos 1) n then Ok n else Err (bad_step at)
 
 -- the step of a loop, 1 where none is written
 abbrev pub step_of : List ℤ → Option Index → Result ℤ Fault
-step_of turns None = Ok (pos 1)
-step_of turns (Some by) = and_then (value_of_index turns by) (tested_step by.at)
+step_of indices None = Ok (pos 1)
+step_of indices (Some by) = and_then (value_of_index indices by) (tested_step by.at)
 
 -- the numbers that a loop's index takes: the first bound, the second and the step are evaluated, and then the step is tested
 unfoldable pub loop_numbers : List ℤ → Index → Index → Option Index → Result (List ℤ) Fault
-loop_numbers turns from to by =
-    and_then (value_of_index turns from) (λ a. and_then (value_of_index turns to) (λ b. and_then (step_of turns by) (λ step. Ok (numbers a b step))))
+loop_numbers indices from to by =
+    and_then (value_of_index indices from) (λ a. and_then (value_of_index indices to) (λ b. and_then (step_of indices by) (λ step. Ok (numbers a b step))))
 
 -- whether a relation holds of two whole numbers
 abbrev pub is_related : Relation → ℤ → ℤ → Bool
@@ -117,7 +117,7 @@ is_related AtLeast a b = int_le b a
 
 -- whether a branch's relation holds: its left side is evaluated, and then its right one
 unfoldable pub condition : List ℤ → Index → Relation → Index → Result Bool Fault
-condition turns left rel right = and_then (value_of_index turns left) (λ a. and_then (value_of_index turns right) (λ b. Ok (is_related rel a b)))
+condition indices left rel right = and_then (value_of_index indices left) (λ a. and_then (value_of_index indices right) (λ b. Ok (is_related rel a b)))
 
 -- an index value is from 0 to its size less 1
 abbrev pub is_within : ℤ → ℕ → Bool
@@ -141,9 +141,9 @@ sizes_of decls d = sizes_at (slice_get decls d)
 
 -- the values of the indices from left to right; a place has at most two
 abbrev pub indices_of : List ℤ → List Index → Result (List ℤ) Fault
-indices_of turns [] = Ok []
-indices_of turns (i ∷ []) = and_then (value_of_index turns i) (λ m. Ok (m ∷ []))
-indices_of turns (i ∷ j ∷ more) = and_then (value_of_index turns i) (λ m. and_then (value_of_index turns j) (λ n. Ok (m ∷ n ∷ [])))
+indices_of indices [] = Ok []
+indices_of indices (i ∷ []) = and_then (value_of_index indices i) (λ m. Ok (m ∷ []))
+indices_of indices (i ∷ j ∷ more) = and_then (value_of_index indices i) (λ m. and_then (value_of_index indices j) (λ n. Ok (m ∷ n ∷ [])))
 
 -- an element by its declaration and its place in it
 abbrev pub cell : ℕ → ℕ → Cell
@@ -151,6 +151,6 @@ cell decl offset = record { decl = decl; offset = offset }
 
 -- the element that a place names: all its indices are evaluated, and then they are tested
 abbrev pub located : List Declared → List ℤ → Place → Result Cell Fault
-located decls turns p =
-    and_then (indices_of turns p.indices) (λ is.
+located decls indices p =
+    and_then (indices_of indices p.indices) (λ is.
     and_then (ok_or_fault (out_of_range p.at) (offset_of (sizes_of decls p.decl) is)) (λ offset. Ok (cell p.decl offset)))

@@ -58,7 +58,7 @@ is_function op = false
 abbrev pub all : List Bool → Bool
 all = list_all (λ b. b)
 
--- one layer of an index in so many loops: numbers are numbers, turns are open, chains have operators of one level
+-- one layer of an index in so many loops: numbers are numbers, loop indices are those of open loops, chains have operators of one level
 abbrev pub index_fits_step : ℕ → index.IndexTree-F Bool (Op × Bool) → Bool
 index_fits_step loops (index.Number n) = is_number n
 index_fits_step loops (index.Turn k) = nat_lt k loops

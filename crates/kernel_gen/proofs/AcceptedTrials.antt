@@ -9,7 +9,7 @@ use Rattle.kernel_ast.specs.declared.tree.Stmt.TheVariants as stmt
 use Rattle.kernel_ast.specs.KernelParts.{Declared, KernelParts}
 use Rattle.kernel_lexer.specs.declared.token.Token.{Token}
 use Rattle.kernel_lexer.specs.Spelling.{Text}
-use Rattle.kernel_parser.specs.declared.names.scope.Meaning.TheVariants.{Element}
+use Rattle.kernel_parser.specs.declared.names.scope.NameMeaning.TheVariants.{Element}
 use Rattle.kernel_syntax.specs.declared.raw.RawExpr.{RawExpr, fold-RawExpr}
 use Rattle.kernel_syntax.specs.declared.raw.RawExpr.TheOpen as open_raw
 use Rattle.kernel_syntax.specs.declared.raw.RawExpr.TheOpen.{RawExpr-F, RawLink-F}
@@ -22,7 +22,7 @@ use Rattle.kernel_syntax.specs.declared.raw.RawStmt.TheVariants as raw_stmt
 use Rattle.kernel_syntax.specs.declared.raw.RawStmt.TheFolds.{fold-roll-RawStmt}
 use Rattle.kernel_parser.specs.NameFaults.{NameFault}
 use Rattle.kernel_parser.specs.Names as names
-use Rattle.kernel_parser.specs.Names.{Known, declared, meaning, meaning_by, declared_at, name_faults, place_faults, word}
+use Rattle.kernel_parser.specs.Names.{Known, declared, name_meaning, name_meaning_by, declared_at, name_faults, place_faults, word}
 use Rattle.kernel_parser.specs.Resolved as tree
 use Rattle.kernel_syntax.specs.Tokens.{op_of}
 use Rattle.kernel_syntax.specs.Trees as trees
@@ -120,7 +120,7 @@ last_made text at n h s =
     let s1 = spelled-append text t.to (element_pieces space (15 + n)) (semicolon ∷ []) s.1.1 in
     let y = element_is_read text t.to space (15 + n) (omega arith) s1.0 in
     let r = element_raw t.to space (15 + n) in
-    let m : meaning kn p.name ≡ Element 1 = named text p.name (codes "y") 1 s.0 refl in
+    let m : name_meaning kn p.name ≡ Element 1 = named text p.name (codes "y") 1 s.0 refl in
     let target : tree.target_of kn p ≡ place_in text p 1 = ap (λ z. record { decl = tree.decl_of z; indices = []; at = p.name.from }) m in
     let value : tree.expr_of kn (raw.Place r) ≡ expr.Cell y.place = fold_place Expr Link (tree.expr_step kn) tree.link_step r ∙ y.is in
     let faults : names.expr_faults kn (raw.Place r) ≡ [] = fold_place (List NameFault) (List NameFault) (names.expr_faults_step kn) names.link_step r ∙ y.faultless in
@@ -174,9 +174,9 @@ decls_are text s =
 abbrev three_faults : Text → Text → Text → List NameFault
 three_faults x y t =
     let ds = three x y t in
-    (names.twice_faults (meaning_by (names.open_at [] x) (declared_at [] x)) 18 ++ [])
-    ++ ((names.twice_faults (meaning_by (names.open_at [] y) (declared_at ((x, record { kind = role.Input; sizes = 16 ∷ []; at = 18 }) ∷ []) y)) 29 ++ [])
-    ++ ((names.twice_faults (meaning_by (names.open_at [] t) (declared_at ((x, record { kind = role.Input; sizes = 16 ∷ []; at = 18 }) ∷ (y, record { kind = role.Output; sizes = []; at = 29 }) ∷ []) t)) 36 ++ []) ++ []))
+    (names.twice_faults (name_meaning_by (names.open_at [] x) (declared_at [] x)) 18 ++ [])
+    ++ ((names.twice_faults (name_meaning_by (names.open_at [] y) (declared_at ((x, record { kind = role.Input; sizes = 16 ∷ []; at = 18 }) ∷ []) y)) 29 ++ [])
+    ++ ((names.twice_faults (name_meaning_by (names.open_at [] t) (declared_at ((x, record { kind = role.Input; sizes = 16 ∷ []; at = 18 }) ∷ (y, record { kind = role.Output; sizes = []; at = 29 }) ∷ []) t)) 36 ++ []) ++ []))
 
 decls_faultless : (text : Text) → AreSpelled text 0 heading_pieces → names.decls_faults text [] decls_raw ≡ []
 unfolding lib.Utf8.encode

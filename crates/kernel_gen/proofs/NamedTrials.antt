@@ -9,7 +9,7 @@ use Rattle.kernel_ast.specs.declared.element.Cell.{Cell}
 use Rattle.kernel_ast.specs.Places.{cell}
 use Rattle.kernel_lexer.specs.declared.token.Token.{Token}
 use Rattle.kernel_lexer.specs.Spelling.{Text}
-use Rattle.kernel_parser.specs.declared.names.scope.Meaning.TheVariants.{Element}
+use Rattle.kernel_parser.specs.declared.names.scope.NameMeaning.TheVariants.{Element}
 use Rattle.kernel_syntax.specs.declared.raw.Span.{Span}
 use Rattle.kernel_syntax.specs.declared.raw.RawIndexTree.TheOpen as open_raw
 use Rattle.kernel_syntax.specs.declared.raw.RawIndexTree.TheVariants as raw
@@ -17,7 +17,7 @@ use Rattle.kernel_syntax.specs.declared.raw.RawIndexTree.TheFolds.{fold-roll-Raw
 use Rattle.kernel_syntax.specs.declared.raw.RawPlace.{RawPlace}
 use Rattle.kernel_parser.specs.NameFaults.{NameFault}
 use Rattle.kernel_parser.specs.Names as names
-use Rattle.kernel_parser.specs.Names.{Known, known_in, meaning, meaning_by, open_at, declared_at, word, place_faults, target_place_faults}
+use Rattle.kernel_parser.specs.Names.{Known, known_in, name_meaning, name_meaning_by, open_at, declared_at, word, place_faults, target_place_faults}
 use Rattle.kernel_parser.specs.Resolved as tree
 use Rattle.kernel_parser.specs.Resolved.{index_of, place_of, target_of}
 use Rattle.kernel_syntax.specs.Tokens.{number_of}
@@ -46,8 +46,8 @@ number_index k t v e h = index_is (index_of k (index_number t)) v (index_tree_is
 
 -- ---- what names stand for
 
-pub named : (text : Text) (s : Span) (name : Text) (d : ℕ) → word text s ≡ name → declared_at trial_decls name ≡ Some d → meaning (known text) s ≡ Element d
-named text s name d e f = ap (λ w. meaning_by None (declared_at trial_decls w)) e ∙ ap (meaning_by None) f
+pub named : (text : Text) (s : Span) (name : Text) (d : ℕ) → word text s ≡ name → declared_at trial_decls name ≡ Some d → name_meaning (known text) s ≡ Element d
+named text s name d e f = ap (λ w. name_meaning_by None (declared_at trial_decls w)) e ∙ ap (name_meaning_by None) f
 
 -- the place that is made of a written one, if its name stands for a declaration
 abbrev pub place_in : Text → RawPlace → ℕ → Place
@@ -71,7 +71,7 @@ input_read : (text : Text) (at : ℕ) (gap : Text) (j : ℕ) → j < 16 → AreS
 input_read text at gap j h s =
     let p = input_raw at gap j in
     let k = known text in
-    let m : meaning k p.name ≡ Element 0 = named text p.name (codes "x") 0 s.0 refl in
+    let m : name_meaning k p.name ≡ Element 0 = named text p.name (codes "x") 0 s.0 refl in
     record {
       place = place_in text p 0;
       is = ap (λ z. tree.read_of z (map (index_of k) p.indices) p.name.from) m;
@@ -92,7 +92,7 @@ temporary_read : (text : Text) (at : ℕ) (gap : Text) (i : ℕ) → i < 256 →
 temporary_read text at gap i h s =
     let p = temporary_raw at gap i in
     let k = known text in
-    let m : meaning k p.name ≡ Element 2 = named text p.name (codes "t") 2 s.0 refl in
+    let m : name_meaning k p.name ≡ Element 2 = named text p.name (codes "t") 2 s.0 refl in
     record {
       place = place_in text p 2;
       is = ap (λ z. tree.read_of z (map (index_of k) p.indices) p.name.from) m;
@@ -105,7 +105,7 @@ temporary_target : (text : Text) (at : ℕ) (gap : Text) (i : ℕ) → i < 256 �
 temporary_target text at gap i h s =
     let p = temporary_raw at gap i in
     let k = known text in
-    let m : meaning k p.name ≡ Element 2 = named text p.name (codes "t") 2 s.0 refl in
+    let m : name_meaning k p.name ≡ Element 2 = named text p.name (codes "t") 2 s.0 refl in
     record {
       place = place_in text p 2;
       is = ap (λ z. record { decl = tree.decl_of z; indices = map (index_of k) p.indices; at = p.name.from }) m;

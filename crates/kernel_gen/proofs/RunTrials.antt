@@ -6,6 +6,7 @@ use Rattle.comp_graph.specs.declared.operation.Op.{Op}
 use Rattle.comp_graph.specs.declared.node.Operand.{Operand}
 use Rattle.comp_graph.specs.declared.node.Operand.TheVariants.{Vertex, Const}
 use Rattle.comp_graph.specs.Graphs.{GraphParts}
+use Rattle.comp_graph.specs.Operations.{value_at}
 use Rattle.kernel_ast.specs.declared.tree.DeclKind.TheVariants as role
 use Rattle.kernel_ast.specs.declared.tree.Place.{Place}
 use Rattle.kernel_ast.specs.declared.tree.Expr.{Expr, fold-Expr}
@@ -25,7 +26,7 @@ use Rattle.kernel_ast.specs.Places.{cell, located}
 use Rattle.kernel_ast.specs.Weights as weights
 use Rattle.kernel_ast.specs.Walk.{all_at, count, link_places, look_at, places_of, places_step, too_many_turns, walk}
 use Rattle.kernel_ast.specs.Machine.{Elements, Run, State, assign, cells_of, cells_of_decl, chain, enter, evaluate, execute, execute_all, expr_step, held, is_cell, leave, link_step, no_elements, output_unset, put, read, read_option, run_all, unset}
-use Rattle.kernel_ast.specs.Meaning.{Entry, Held, append_entry, constants, entry, fold_or_append, meaning, numbered, numbered_input, set_output, too_many_vertices, value_at, with_number}
+use Rattle.kernel_ast.specs.Meaning.{Entry, Held, append_entry, constants, entry, fold_or_append, kernel_meaning, numbered, numbered_input, set_output, too_many_vertices, with_number}
 use Rattle.kernel_ast.specs.KernelGraph.{graph_by, graph_of, node_of}
 use Rattle.kernel_ast.proofs.Trees.{execute_is, walk_is}
 use Rattle.kernel_lexer.proofs.Cuts.{two_ways}
@@ -351,7 +352,7 @@ trial_run n title body h l =
     let rest = λ (m : Memory). and_then (execute_all numbered trial_decls body m) (λ m. each (leave numbered m.0) (cells_of role.Output 0 trial_decls) ([], m.1)) in
     let run : run_all numbered numbered_input k [] ≡ Ok (o.0, f.after.1)
     = ap (λ r. and_then r rest) started ∙ ap (λ r. and_then r (λ m. each (leave numbered m.0) (cells_of role.Output 0 trial_decls) ([], m.1))) f.is ∙ o.1 in
-    let means : meaning k ≡ Ok (o.0, f.after.1) = ap (λ r. and_then r (λ _. run_all numbered numbered_input k [])) w.1 ∙ run in
+    let means : kernel_meaning k ≡ Ok (o.0, f.after.1) = ap (λ r. and_then r (λ _. run_all numbered numbered_input k [])) w.1 ∙ run in
     let graph = graph_by k (map (λ h. h.origin) o.0, f.after.1) in
     record {
       graph = graph;

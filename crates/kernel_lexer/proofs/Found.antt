@@ -11,7 +11,7 @@ use Rattle.kernel_lexer.specs.declared.cut.Cut.TheVariants.{Token}
 use Rattle.kernel_lexer.specs.declared.lex_end.LexEnd.{LexEnd}
 use Rattle.kernel_lexer.specs.declared.lex_end.LexEnd.TheVariants as ends
 use Rattle.kernel_lexer.specs.Spelling.{Text, bytes, Longest, kind_of}
-use Rattle.kernel_lexer.specs.Lexing.{AreTokens, Begins, FaultAfter, IsFaultOf, skip}
+use Rattle.kernel_lexer.specs.Lexing.{AreTokens, Begins, FaultAfter, BreaksTokenRule, skip}
 use Rattle.kernel_lexer.specs.Cutting.{IsCut, CharsEnd, FrontEnd}
 use Rattle.kernel_lexer.proofs.Cuts.{bytes-append}
 
@@ -25,7 +25,7 @@ pub record Leads (text : Text) (found : List Spot) (rest : Text) : Type 0 where
 pub leads_end : (text : Text) (found : List Spot) → Leads text found [] → AreTokens (bytes text) text found
 leads_end text found l = subst (AreTokens (bytes text) text) (append-nil found) (l.tokens [] (sym l.is))
 
-pub leads_fault : (text : Text) (found : List Spot) (rest : Text) (f : TokenRule) → Leads text found rest → IsFaultOf f rest → FaultAfter (bytes text) text (found ++ []) f rest
+pub leads_fault : (text : Text) (found : List Spot) (rest : Text) (f : TokenRule) → Leads text found rest → BreaksTokenRule f rest → FaultAfter (bytes text) text (found ++ []) f rest
 leads_fault text found rest f l h = l.fault [] f rest (sym l.is, h)
 
 module _ (text : Text) (found : List Spot) (rest behind : Text) (t : Spot) (l : Leads text found rest) (word : Text) (e : rest ≡ word ++ behind) (longest : Longest word behind) (kinds : kind_of word ≡ Some t.kind) (f : t.from ≡ bytes text - bytes rest) (u : t.to ≡ bytes text - bytes behind) where

@@ -5,24 +5,24 @@ use Rattle.kernel_lexer.specs.declared.cut.TokenRule.{TokenRule}
 use Rattle.kernel_lexer.specs.declared.cut.TokenRule.TheVariants.{BadByte, TooBig}
 use Rattle.kernel_lexer.specs.declared.token.Token.{Token as Spot}
 use Rattle.kernel_lexer.specs.Spelling.{Text, bytes, Longest, kind_of}
-use Rattle.kernel_lexer.specs.Lexing.{AreTokens, Begins, FaultAfter, IsFaultOf, skip}
+use Rattle.kernel_lexer.specs.Lexing.{AreTokens, Begins, FaultAfter, BreaksTokenRule, skip}
 use Rattle.kernel_lexer.proofs.Words.{one_longest, not_empty}
 
 -- no token stands where a fault does
-no_token_there : {X : Type 0} (f : TokenRule) (left word rest : Text) (k : TokenKind) → IsFaultOf f left → left ≡ word ++ rest → Longest word rest → kind_of word ≡ Some k → X
+no_token_there : {X : Type 0} (f : TokenRule) (left word rest : Text) (k : TokenKind) → BreaksTokenRule f left → left ≡ word ++ rest → Longest word rest → kind_of word ≡ Some k → X
 no_token_there BadByte left word rest k h e l m = absurd (h.1 word rest e l.is)
 no_token_there TooBig left word rest k h e l m =
     let s = one_longest word h.0 rest h.1 l h.3 (sym e ∙ h.2) in
     let n : Some k ≡ None = sym m ∙ ap kind_of s.0 ∙ h.4 in
     absurd (cc)
 
-same_fault : (f g : TokenRule) (left : Text) → IsFaultOf f left → IsFaultOf g left → f ≡ g
+same_fault : (f g : TokenRule) (left : Text) → BreaksTokenRule f left → BreaksTokenRule g left → f ≡ g
 same_fault BadByte BadByte left h k = refl
 same_fault TooBig TooBig left h k = refl
 same_fault BadByte TooBig left h k = absurd (h.1 k.0 k.1 k.2 (k.3).is)
 same_fault TooBig BadByte left h k = absurd (k.1 h.0 h.1 h.2 (h.3).is)
 
-fault_not_end : {X : Type 0} (f : TokenRule) → IsFaultOf f [] → X
+fault_not_end : {X : Type 0} (f : TokenRule) → BreaksTokenRule f [] → X
 fault_not_end BadByte h = absurd (h.0 refl)
 fault_not_end TooBig h = not_empty h.0 h.1 h.3 (sym h.2)
 
@@ -60,7 +60,7 @@ only_tokens end text (t ∷ ts) (u ∷ us) (w, x, a, as') (v, y, b, bs) =
 pub one_fault : (end : ℕ) (text : Text) (ts us : List Spot) (f g : TokenRule) (left right : Text) → FaultAfter end text ts f left → FaultAfter end text us g right → (f ≡ g) × (left ≡ right)
 one_fault end text [] [] f g left right a b =
     let same : left ≡ right = sym a.0 ∙ b.0 in
-    (same_fault f g right (subst (IsFaultOf f) same a.1) b.1, same)
+    (same_fault f g right (subst (BreaksTokenRule f) same a.1) b.1, same)
 one_fault end text [] (u ∷ us) f g left right a (v, y, b, bs) = no_token_there f left v y u.kind a.1 (sym a.0 ∙ b.split) b.longest b.kind
 one_fault end text (t ∷ ts) [] f g left right (w, x, a, as') b = no_token_there g right w x t.kind b.1 (sym b.0 ∙ a.split) a.longest a.kind
 one_fault end text (t ∷ ts) (u ∷ us) f g left right (w, x, a, as') (v, y, b, bs) =
@@ -69,7 +69,7 @@ one_fault end text (t ∷ ts) (u ∷ us) f g left right (w, x, a, as') (v, y, b,
 
 -- A text with tokens has no fault.
 pub tokens_or_fault : (end : ℕ) (text : Text) (ts us : List Spot) (f : TokenRule) (left : Text) → AreTokens end text ts → FaultAfter end text us f left → ⊥
-tokens_or_fault end text [] [] f left a b = fault_not_end f (subst (IsFaultOf f) (sym b.0 ∙ a) b.1)
+tokens_or_fault end text [] [] f left a b = fault_not_end f (subst (BreaksTokenRule f) (sym b.0 ∙ a) b.1)
 tokens_or_fault end text [] (u ∷ us) f left a (v, y, b, bs) = not_blank end text u v y b a
 tokens_or_fault end text (t ∷ ts) [] f left (w, x, a, as') b = no_token_there f left w x t.kind b.1 (sym b.0 ∙ a.split) a.longest a.kind
 tokens_or_fault end text (t ∷ ts) (u ∷ us) f left (w, x, a, as') (v, y, b, bs) =

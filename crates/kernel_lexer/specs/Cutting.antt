@@ -8,7 +8,7 @@ use Rattle.kernel_lexer.specs.declared.token.Mark.{Mark}
 use Rattle.kernel_lexer.specs.declared.lex_end.LexEnd.{LexEnd}
 use Rattle.kernel_lexer.specs.declared.lex_end.LexEnd.TheVariants as ends
 use Rattle.kernel_lexer.specs.Spelling.{Text, bytes, starts, is_digit, signs, sign_of, Longest, kind_of}
-use Rattle.kernel_lexer.specs.Lexing.{IsFaultOf, begins}
+use Rattle.kernel_lexer.specs.Lexing.{BreaksTokenRule, begins}
 use Rattle.kernel_lexer.specs.Texts.{IsFirstFault}
 
 -- the longest front whose characters pass
@@ -51,7 +51,7 @@ BeginsOther text = (c : ℕ) × (tail : Text) × (text ≡ c ∷ tail) × (start
 -- what a cut says of what is left
 abbrev pub IsCut : Text → Cut → Type 0
 IsCut left (Token kind len) = (rest : Text) × (word : Text) × (left ≡ word ++ rest) × (length word ≡ len) × Longest word rest × (kind_of word ≡ Some kind)
-IsCut left (NoToken fault) = IsFaultOf fault left
+IsCut left (NoToken fault) = BreaksTokenRule fault left
 
 -- what the end of characters without tokens means
 abbrev pub CharsEnd : Text → LexEnd → Type 0

@@ -34,11 +34,11 @@ AreTokens end text [] = skip false text ≡ []
 AreTokens end text (t ∷ ts) = (word : Text) × (rest : Text) × Begins end text t word rest × AreTokens end rest ts
 
 -- What is at fault where a token should begin: no token begins there, or the longest is too big.
-abbrev pub IsFaultOf : TokenRule → Text → Type 0
-IsFaultOf BadByte left = (left ≢ []) × ((word rest : Text) → left ≡ word ++ rest → is_spelling word ≡ true → ⊥)
-IsFaultOf TooBig left = (word : Text) × (rest : Text) × (left ≡ word ++ rest) × Longest word rest × (kind_of word ≡ None)
+abbrev pub BreaksTokenRule : TokenRule → Text → Type 0
+BreaksTokenRule BadByte left = (left ≢ []) × ((word rest : Text) → left ≡ word ++ rest → is_spelling word ≡ true → ⊥)
+BreaksTokenRule TooBig left = (word : Text) × (rest : Text) × (left ≡ word ++ rest) × Longest word rest × (kind_of word ≡ None)
 
 -- the fault comes after these tokens, and this is left from it on
 abbrev pub FaultAfter : ℕ → Text → List Token → TokenRule → Text → Type 0
-FaultAfter end text [] fault left = (skip false text ≡ left) × IsFaultOf fault left
+FaultAfter end text [] fault left = (skip false text ≡ left) × BreaksTokenRule fault left
 FaultAfter end text (t ∷ ts) fault left = (word : Text) × (rest : Text) × Begins end text t word rest × FaultAfter end rest ts fault left

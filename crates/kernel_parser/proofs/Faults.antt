@@ -6,7 +6,7 @@ use Rattle.kernel_parser.specs.declared.parse_end.ParseEnd.TheVariants.{Fault, N
 use Rattle.kernel_parser.specs.declared.names.fault.NameRule.TheVariants as faults
 use Rattle.kernel_parser.specs.declared.names.fault.NameRule as names_fault
 use Rattle.kernel_parser.specs.NameFaults.{NameFault, fault, unless}
-use Rattle.kernel_parser.specs.Names.{meaning_by, twice_faults}
+use Rattle.kernel_parser.specs.Names.{name_meaning_by, twice_faults}
 use Rattle.kernel_parser.specs.Scopes.{EndsAt}
 
 -- the first part has a fault
@@ -20,13 +20,13 @@ pub ends_later : (xs ys : List NameFault) (e : ParseEnd) → xs ≡ [] → EndsA
 ends_later xs ys e is h = subst (λ z. EndsAt (z ++ ys) e) (sym is) h
 
 -- a name that is declared already
-pub twice_known : (o d : Option ℕ) (at : ℕ) → o ≡ d → is_some o ≡ true → twice_faults (meaning_by None d) at ≡ fault faults.Twice at ∷ []
+pub twice_known : (o d : Option ℕ) (at : ℕ) → o ≡ d → is_some o ≡ true → twice_faults (name_meaning_by None d) at ≡ fault faults.Twice at ∷ []
 twice_known None d at e h = absurd (cc)
-twice_known (Some k) d at e h = ap (λ z. twice_faults (meaning_by None z) at) (sym e)
+twice_known (Some k) d at e h = ap (λ z. twice_faults (name_meaning_by None z) at) (sym e)
 
 -- a name that is not
-pub twice_new : (o d : Option ℕ) (at : ℕ) → o ≡ d → is_some o ≡ false → twice_faults (meaning_by None d) at ≡ []
-twice_new None d at e h = ap (λ z. twice_faults (meaning_by None z) at) (sym e)
+pub twice_new : (o d : Option ℕ) (at : ℕ) → o ≡ d → is_some o ≡ false → twice_faults (name_meaning_by None d) at ≡ []
+twice_new None d at e h = ap (λ z. twice_faults (name_meaning_by None z) at) (sym e)
 twice_new (Some k) d at e h = absurd (cc)
 
 -- there is none where its test fails

@@ -53,9 +53,9 @@ module _ (known : Known) where
   -- a place that is read
   read_holds : (o d : Option ℕ) (at : ℕ) (is : List RawIndex) → ((k : ℕ) → o ≡ Some k → nat_lt k n ≡ true)
       → good.all (map fits.index_fits is) ≡ true
-      → names.read_faults known.decls (names.meaning_by o d) (length is) at ++ names.indices_faults known is ≡ []
-      → (fits_here (tree.read_of (names.meaning_by o d) (map (tree.index_of known) is) at) ≡ true)
-      × (weights.expr_weight (tree.read_of (names.meaning_by o d) (map (tree.index_of known) is) at) ≡ 1 + sum (map raw_weights.index_weight is))
+      → names.read_faults known.decls (names.name_meaning_by o d) (length is) at ++ names.indices_faults known is ≡ []
+      → (fits_here (tree.read_of (names.name_meaning_by o d) (map (tree.index_of known) is) at) ≡ true)
+      × (weights.expr_weight (tree.read_of (names.name_meaning_by o d) (map (tree.index_of known) is) at) ≡ 1 + sum (map raw_weights.index_weight is))
   read_holds (Some k) d at is h p q =
       let none : is ≡ [] = no_elements is (passed (length is == 0) faults.Indices at (first_none _ (names.indices_faults known is) q)) in (
         ap fits_here (sym (expr.rolls-Turn k)) ∙ expr_fits_rolled known.decls n (open_expr.Turn k) ∙ h k refl,
@@ -75,9 +75,9 @@ module _ (known : Known) where
   -- a place that is assigned to
   written_holds : (o d : Option ℕ) (at : ℕ) (is : List RawIndex)
       → good.all (map fits.index_fits is) ≡ true
-      → names.target_faults known.decls (names.meaning_by o d) (length is) at ++ names.indices_faults known is ≡ []
-      → (good.target_fits known.decls n (record { decl = tree.decl_of (names.meaning_by o d); indices = map (tree.index_of known) is; at = at }) ≡ true)
-      × (weights.place_weight (record { decl = tree.decl_of (names.meaning_by o d); indices = map (tree.index_of known) is; at = at }) ≡ 1 + sum (map raw_weights.index_weight is))
+      → names.target_faults known.decls (names.name_meaning_by o d) (length is) at ++ names.indices_faults known is ≡ []
+      → (good.target_fits known.decls n (record { decl = tree.decl_of (names.name_meaning_by o d); indices = map (tree.index_of known) is; at = at }) ≡ true)
+      × (weights.place_weight (record { decl = tree.decl_of (names.name_meaning_by o d); indices = map (tree.index_of known) is; at = at }) ≡ 1 + sum (map raw_weights.index_weight is))
   written_holds (Some k) d at is p q = absurd (cc)
   written_holds None (Some d) at is p q =
       let writable = unless (good.is_writable (slice_get known.decls d)) faults.NotWritable at in

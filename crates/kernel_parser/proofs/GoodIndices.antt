@@ -37,8 +37,8 @@ tree_weighs : (t : open_index.IndexTree-F IndexTree IndexLink) → weights.tree_
 tree_weighs t = fold-roll-IndexTree ℕ ℕ weights.tree_weight_step weights.index_link_step t
 
 -- a name that is an open loop
-turn_holds : (n : ℕ) (o d : Option ℕ) (at : ℕ) → ((k : ℕ) → o ≡ Some k → nat_lt k n ≡ true) → names.index_name_faults (names.meaning_by o d) at ≡ []
-    → (tree_fits n (tree.turn_of (names.meaning_by o d)) ≡ true) × (weights.tree_weight (tree.turn_of (names.meaning_by o d)) ≡ 1)
+turn_holds : (n : ℕ) (o d : Option ℕ) (at : ℕ) → ((k : ℕ) → o ≡ Some k → nat_lt k n ≡ true) → names.index_name_faults (names.name_meaning_by o d) at ≡ []
+    → (tree_fits n (tree.turn_of (names.name_meaning_by o d)) ≡ true) × (weights.tree_weight (tree.turn_of (names.name_meaning_by o d)) ≡ 1)
 turn_holds n (Some k) d at h none = (
   ap (tree_fits n) (sym (index.rolls-Turn k)) ∙ tree_fits_rolled n (open_index.Turn k) ∙ h k refl,
   ap weights.tree_weight (sym (index.rolls-Turn k)) ∙ tree_weighs (open_index.Turn k),

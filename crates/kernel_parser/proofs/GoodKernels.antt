@@ -103,7 +103,7 @@ module _ (text : List ℕ) (decls : List Declared) where
       let last = and_right (fits.header_fits h) _ after in
       let both = and_left (fits.header_fits h) _ after in
       let header = first_none (names.header_faults known h) _ q in
-      let bounds = second_none (names.twice_faults (names.meaning known h.name) h.name.from) _ header in
+      let bounds = second_none (names.twice_faults (names.name_meaning known h.name) h.name.from) _ header in
       let end = second_none (names.index_faults known h.from) (names.index_faults known h.to ++ names.step_faults known h.by) bounds in
       let later = and_right (fits.index_fits h.from) (fits.index_fits h.to && fits.step_fits h.by) both in
       let by = tree.step_of known h.by in
@@ -198,7 +198,7 @@ decl_holds text d f q = record { name = f.name; few = subst (λ k. k ≤ 2) (sym
 decls_hold : (text : List ℕ) (earlier : List Declared) (ds : List RawDecl) → All (DeclFits text) ds → names.decls_faults text earlier ds ≡ [] → All IsDeclared (map (names.declared text) ds)
 decls_hold text earlier [] f q = All-nil IsDeclared
 decls_hold text earlier (d ∷ more) f q =
-    let twice = names.twice_faults (names.meaning (known_in text earlier []) d.name) d.name.from in
+    let twice = names.twice_faults (names.name_meaning (known_in text earlier []) d.name) d.name.from in
     let here = first_none (twice ++ names.sizes_faults d.sizes) (names.decls_faults text (earlier ++ names.declared text d ∷ []) more) q in
     let there = second_none (twice ++ names.sizes_faults d.sizes) (names.decls_faults text (earlier ++ names.declared text d ∷ []) more) q in
     All-cons IsDeclared (names.declared text d) (map (names.declared text) more) (decl_holds text d (All-head (DeclFits text) d more f) (second_none twice (names.sizes_faults d.sizes) here))

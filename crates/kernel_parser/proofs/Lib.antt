@@ -11,6 +11,7 @@ pub mod Levels
 pub mod ReadIndices
 pub mod ReadExprs
 pub mod ReadKernels
+pub mod Expressions
 pub mod FaultPlaces
 pub mod NamesInOrder
 pub mod OneText

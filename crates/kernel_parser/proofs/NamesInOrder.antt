@@ -1,32 +1,21 @@
 -- The faults of the names of a text's own tree stand in order, rule by rule of the grammar.
-use Rattle.std.proofs.Common.{◌≡◌, ◌≤◌, ◌∷◌, ◌++◌, [], ℕ, zero, suc, ℤ, Bool, true, false, List, map, length, Option, Some, None, append-nil, refl, sym, ap, ◌∙◌, subst, arith, inr}
-use Rattle.comp_graph.specs.declared.operation.Op.{Op}
+use Rattle.std.proofs.Common.{◌≡◌, ◌≤◌, ◌∷◌, ◌++◌, [], ℕ, zero, suc, Bool, true, false, List, map, length, Option, Some, None, append-nil, refl, sym, ap, ◌∙◌, subst, arith, inr}
 use Rattle.kernel_ast.specs.KernelParts.{Declared}
-use Rattle.kernel_ast.specs.Walk.{joined}
 use Rattle.kernel_lexer.specs.declared.token.Keyword.TheVariants as w
 use Rattle.kernel_lexer.specs.declared.token.Mark.TheVariants as m
 use Rattle.kernel_lexer.specs.declared.token.Token.{Token}
 use Rattle.kernel_lexer.specs.Laws.{AreSpans}
 use Rattle.kernel_lexer.proofs.Spans.{spans_rise}
-use Rattle.kernel_parser.specs.declared.names.scope.Meaning.{Meaning}
-use Rattle.kernel_parser.specs.declared.names.scope.Meaning.TheVariants.{Turn, Element, Unknown}
+use Rattle.kernel_parser.specs.declared.names.scope.NameMeaning.{NameMeaning}
+use Rattle.kernel_parser.specs.declared.names.scope.NameMeaning.TheVariants.{Turn, Element, Unknown}
 use Rattle.kernel_parser.specs.declared.names.fault.NameRule.{NameRule}
 use Rattle.kernel_parser.specs.declared.names.fault.NameRule.TheVariants as faults
-use Rattle.kernel_syntax.specs.declared.raw.Span.{Span}
 use Rattle.kernel_syntax.specs.declared.raw.RawSize.{RawSize}
 use Rattle.kernel_syntax.specs.declared.raw.RawDecl.{RawDecl}
-use Rattle.kernel_syntax.specs.declared.raw.RawIndexTree.{RawIndexTree}
-use Rattle.kernel_syntax.specs.declared.raw.RawIndexTree.TheOpen as open_index
-use Rattle.kernel_syntax.specs.declared.raw.RawIndexTree.TheVariants as index
-use Rattle.kernel_syntax.specs.declared.raw.RawIndexTree.TheFolds.{fold-roll-RawIndexTree, fold-roll-RawIndexLink}
-use Rattle.kernel_syntax.specs.declared.raw.RawIndexLink.{RawIndexLink}
 use Rattle.kernel_syntax.specs.declared.raw.RawIndex.{RawIndex}
 use Rattle.kernel_syntax.specs.declared.raw.RawPlace.{RawPlace}
 use Rattle.kernel_syntax.specs.declared.raw.RawExpr.{RawExpr}
-use Rattle.kernel_syntax.specs.declared.raw.RawExpr.TheOpen as open_expr
 use Rattle.kernel_syntax.specs.declared.raw.RawExpr.TheVariants as expr
-use Rattle.kernel_syntax.specs.declared.raw.RawExpr.TheFolds.{fold-roll-RawExpr, fold-roll-RawLink}
-use Rattle.kernel_syntax.specs.declared.raw.RawLink.{RawLink}
 use Rattle.kernel_syntax.specs.declared.raw.RawLoop.{RawLoop}
 use Rattle.kernel_syntax.specs.declared.raw.RawBranch.{RawBranch}
 use Rattle.kernel_syntax.specs.declared.raw.RawStmt.{RawStmt}
@@ -34,12 +23,13 @@ use Rattle.kernel_syntax.specs.declared.raw.RawStmt.TheOpen as open_stmt
 use Rattle.kernel_syntax.specs.declared.raw.RawStmt.TheVariants as stmt
 use Rattle.kernel_syntax.specs.declared.raw.RawStmt.TheFolds.{fold-roll-RawStmt}
 use Rattle.kernel_parser.specs.NameFaults.{NameFault, unless}
-use Rattle.kernel_parser.specs.Names.{Known, known_in, word, meaning, index_name_faults, index_faults_step, index_link_step, index_tree_faults, index_link_faults, index_faults, indices_faults, read_faults, target_faults, place_faults, target_place_faults, expr_faults_step, link_step, expr_faults, link_faults, twice_faults, step_faults, header_faults, condition_faults, assign_faults, stmt_faults_step, stmt_faults, body_faults, is_size, sizes_faults, declared, decls_faults, name_faults}
+use Rattle.kernel_parser.specs.Names.{Known, known_in, word, name_meaning, index_name_faults, index_link_faults, index_faults, indices_faults, read_faults, target_faults, place_faults, target_place_faults, expr_faults, link_faults, twice_faults, step_faults, header_faults, condition_faults, assign_faults, stmt_faults_step, stmt_faults, body_faults, is_size, sizes_faults, declared, decls_faults, name_faults}
 use Rattle.kernel_parser.specs.TextLaws.{NameFaultsInOrder}
 use Rattle.kernel_syntax.specs.Tokens.{is_name, is_number, is_relation, is_role, is_pair, is_triple, sign, span, number_of, op_of, relation_of}
 use Rattle.kernel_syntax.specs.Tokens as token
 use Rattle.kernel_syntax.specs.Trees as tree
 use Rattle.kernel_syntax.specs.Grammar as rule
+use Rattle.kernel_parser.proofs.Expressions.{index_number_has_faults, index_name_has_faults, index_minus_has_faults, index_chain_has_faults, index_link_has_faults, number_has_faults, place_has_faults, minus_has_faults, chain_has_faults, link_has_faults, call_has_faults}
 use Rattle.kernel_parser.proofs.FaultPlaces.{Within, wider, within_both, Rise, parts, Stand, same_stand, made_stand, either_stand, one_stand, both_stand, front_stand, behind_stand, brackets_stand, ranked_stand}
 use Rattle.token_grammar.specs.Phrases.{Phrase, One, Both, Either, Made, Many, Maybe}
 
@@ -49,12 +39,12 @@ unless_stands : (test : Bool) (rule : NameRule) (at : ℕ) → Within at (suc at
 unless_stands true rule at = (tt, tt)
 unless_stands false rule at = ((tt, tt), (omega arith, omega arith, tt))
 
-index_name_stands : (m : Meaning) (at : ℕ) → Within at (suc at) (index_name_faults m at)
+index_name_stands : (m : NameMeaning) (at : ℕ) → Within at (suc at) (index_name_faults m at)
 index_name_stands (Turn k) at = (tt, tt)
 index_name_stands (Element d) at = unless_stands false faults.Unknown at
 index_name_stands Unknown at = unless_stands false faults.Unknown at
 
-read_stands : (decls : List Declared) (m : Meaning) (count at : ℕ) → Within at (suc at) (read_faults decls m count at)
+read_stands : (decls : List Declared) (m : NameMeaning) (count at : ℕ) → Within at (suc at) (read_faults decls m count at)
 read_stands decls (Turn k) count at = unless_stands _ faults.Indices at
 read_stands decls (Element d) count at = unless_stands _ faults.Indices at
 read_stands decls Unknown count at = unless_stands false faults.Unknown at
@@ -64,72 +54,37 @@ both_at_name true sized at = unless_stands sized faults.Indices at
 both_at_name false true at = unless_stands false faults.NotWritable at
 both_at_name false false at = (((inr (refl, omega arith), tt), (tt, tt)), (omega arith, omega arith, (omega arith, omega arith, tt)))
 
-target_stands : (decls : List Declared) (m : Meaning) (count at : ℕ) → Within at (suc at) (target_faults decls m count at)
+target_stands : (decls : List Declared) (m : NameMeaning) (count at : ℕ) → Within at (suc at) (target_faults decls m count at)
 target_stands decls (Turn k) count at = unless_stands false faults.NotWritable at
 target_stands decls (Element d) count at = both_at_name _ _ at
 target_stands decls Unknown count at = unless_stands false faults.Unknown at
 
-twice_stands : (m : Meaning) (at : ℕ) → Within at (suc at) (twice_faults m at)
+twice_stands : (m : NameMeaning) (at : ℕ) → Within at (suc at) (twice_faults m at)
 twice_stands (Turn k) at = unless_stands false faults.Twice at
 twice_stands (Element d) at = unless_stands false faults.Twice at
 twice_stands Unknown at = (tt, tt)
 
 module _ (known : Known) where
-  -- ---- the definitions at each kind of part
-
-  index_number_is : (n : ℤ) → index_tree_faults known (index.Number n) ≡ []
-  index_number_is n = ap (index_tree_faults known) (sym (index.rolls-Number n)) ∙ fold-roll-RawIndexTree (List NameFault) (List NameFault) (index_faults_step known) index_link_step (open_index.Number n)
-
-  index_name_is : (s : Span) → index_tree_faults known (index.Name s) ≡ index_name_faults (meaning known s) s.from
-  index_name_is s = ap (index_tree_faults known) (sym (index.rolls-Name s)) ∙ fold-roll-RawIndexTree (List NameFault) (List NameFault) (index_faults_step known) index_link_step (open_index.Name s)
-
-  index_minus_is : (t : RawIndexTree) → index_tree_faults known (index.Minus t) ≡ index_tree_faults known t
-  index_minus_is t = ap (index_tree_faults known) (sym (index.rolls-Minus t)) ∙ fold-roll-RawIndexTree (List NameFault) (List NameFault) (index_faults_step known) index_link_step (open_index.Minus t)
-
-  index_chain_is : (i : RawIndex) (l : RawIndexLink) (ls : List RawIndexLink) → index_faults known (tree.index_chain (i, l ∷ ls)) ≡ index_faults known i ++ joined (map (index_link_faults known) (l ∷ ls))
-  index_chain_is i l ls = ap (index_tree_faults known) (sym (index.rolls-Chain i.tree (l ∷ ls))) ∙ fold-roll-RawIndexTree (List NameFault) (List NameFault) (index_faults_step known) index_link_step (open_index.Chain i.tree (l ∷ ls))
-
-  index_link_is : (t : Token) (i : RawIndex) → index_link_faults known (tree.index_link (t, i)) ≡ index_faults known i
-  index_link_is t i = fold-roll-RawIndexLink (List NameFault) (List NameFault) (index_faults_step known) index_link_step (record { op = op_of t.kind; value = i.tree })
-
-  number_is : (n : ℤ) → expr_faults known (expr.Number n) ≡ []
-  number_is n = ap (expr_faults known) (sym (expr.rolls-Number n)) ∙ fold-roll-RawExpr (List NameFault) (List NameFault) (expr_faults_step known) link_step (open_expr.Number n)
-
-  place_is : (p : RawPlace) → expr_faults known (expr.Place p) ≡ place_faults known p
-  place_is p = ap (expr_faults known) (sym (expr.rolls-Place p)) ∙ fold-roll-RawExpr (List NameFault) (List NameFault) (expr_faults_step known) link_step (open_expr.Place p)
-
-  minus_is : (e : RawExpr) (at : ℕ) → expr_faults known (expr.Minus e at) ≡ expr_faults known e
-  minus_is e at = ap (expr_faults known) (sym (expr.rolls-Minus e at)) ∙ fold-roll-RawExpr (List NameFault) (List NameFault) (expr_faults_step known) link_step (open_expr.Minus e at)
-
-  chain_is : (e : RawExpr) (l : RawLink) (ls : List RawLink) → expr_faults known (tree.chain (e, l ∷ ls)) ≡ expr_faults known e ++ joined (map (link_faults known) (l ∷ ls))
-  chain_is e l ls = ap (expr_faults known) (sym (expr.rolls-Chain e (l ∷ ls))) ∙ fold-roll-RawExpr (List NameFault) (List NameFault) (expr_faults_step known) link_step (open_expr.Chain e (l ∷ ls))
-
-  link_is : (t : Token) (e : RawExpr) → link_faults known (tree.link (t, e)) ≡ expr_faults known e
-  link_is t e = fold-roll-RawLink (List NameFault) (List NameFault) (expr_faults_step known) link_step (record { op = op_of t.kind; value = e; at = t.from })
-
-  call_is : (op : Op) (args : List RawExpr) (at : ℕ) → expr_faults known (expr.Call op args at) ≡ joined (map (expr_faults known) args)
-  call_is op args at = ap (expr_faults known) (sym (expr.rolls-Call op args at)) ∙ fold-roll-RawExpr (List NameFault) (List NameFault) (expr_faults_step known) link_step (open_expr.Call op args at)
-
   -- ---- indices
 
   abbrev IndexStand : Phrase Token RawIndex → Type 0
   IndexStand R = Stand R (index_faults known)
 
   index_of : (R : Phrase Token RawIndex) → IndexStand R → IndexStand (rule.IndexOf R)
-  index_of R x = ranked_stand tree.index_link tree.index_chain (index_faults known) (index_link_faults known) index_link_is (λ i. refl) index_chain_is 2 R x
+  index_of R x = ranked_stand tree.index_link tree.index_chain (index_faults known) (index_link_faults known) (λ t i. index_link_has_faults known (op_of t.kind) i.tree) (λ i. refl) (λ i l ls. index_chain_has_faults known i.tree (l ∷ ls)) 2 R x
 
   index_leaf : IndexStand rule.IndexLeaf
   index_leaf =
       either_stand (Made tree.index_number (One is_number)) (Made tree.index_name (One is_name)) (index_faults known)
       (made_stand tree.index_number (One is_number) (index_faults known)
-      (one_stand is_number (λ t. index_faults known (tree.index_number t)) (λ t. subst (Within t.from (suc t.from)) (sym (index_number_is (number_of t.kind))) (tt, tt))))
+      (one_stand is_number (λ t. index_faults known (tree.index_number t)) (λ t. subst (Within t.from (suc t.from)) (sym (index_number_has_faults known (number_of t.kind))) (tt, tt))))
       (made_stand tree.index_name (One is_name) (index_faults known)
-      (one_stand is_name (λ t. index_faults known (tree.index_name t)) (λ t. subst (Within t.from (suc t.from)) (sym (index_name_is (span t))) (index_name_stands (meaning known (span t)) t.from))))
+      (one_stand is_name (λ t. index_faults known (tree.index_name t)) (λ t. subst (Within t.from (suc t.from)) (sym (index_name_has_faults known (span t))) (index_name_stands (name_meaning known (span t)) t.from))))
 
   index_negated : (R : Phrase Token RawIndex) → IndexStand R → IndexStand (rule.IndexNegated R)
   index_negated R x =
       made_stand tree.index_minus (Both (One (sign m.Minus)) R) (index_faults known)
-      (same_stand (Both (One (sign m.Minus)) R) (λ p. index_faults known (tree.index_minus p)) (λ p. index_faults known p.1) (λ p. index_minus_is p.1.tree)
+      (same_stand (Both (One (sign m.Minus)) R) (λ p. index_faults known (tree.index_minus p)) (λ p. index_faults known p.1) (λ p. index_minus_has_faults known p.1.tree)
       (behind_stand (One (sign m.Minus)) R (index_faults known) x))
 
   index_group : (R : Phrase Token RawIndex) → IndexStand R → IndexStand (rule.IndexGroup R)
@@ -169,10 +124,10 @@ module _ (known : Known) where
       (brackets_stand (rule.Bracket tree.inside (rule.Index d)) (index_faults known) (indices_faults known) refl (λ a more. refl) (index_bracket d) p.mid hi v is p.behind r)
 
   place_stands : (d : ℕ) → Stand (rule.Place d) (place_faults known)
-  place_stands d = made_stand tree.place (Named d) (place_faults known) (named d (λ t count. read_faults known.decls (meaning known (span t)) count t.from) (λ t count. read_stands known.decls (meaning known (span t)) count t.from))
+  place_stands d = made_stand tree.place (Named d) (place_faults known) (named d (λ t count. read_faults known.decls (name_meaning known (span t)) count t.from) (λ t count. read_stands known.decls (name_meaning known (span t)) count t.from))
 
   target_stand : (d : ℕ) → Stand (rule.Place d) (target_place_faults known)
-  target_stand d = made_stand tree.place (Named d) (target_place_faults known) (named d (λ t count. target_faults known.decls (meaning known (span t)) count t.from) (λ t count. target_stands known.decls (meaning known (span t)) count t.from))
+  target_stand d = made_stand tree.place (Named d) (target_place_faults known) (named d (λ t count. target_faults known.decls (name_meaning known (span t)) count t.from) (λ t count. target_stands known.decls (name_meaning known (span t)) count t.from))
 
   -- ---- expressions
 
@@ -180,19 +135,19 @@ module _ (known : Known) where
   ExprStand R = Stand R (expr_faults known)
 
   expr_of : (R : Phrase Token RawExpr) → ExprStand R → ExprStand (rule.ExprOf R)
-  expr_of R x = ranked_stand tree.link tree.chain (expr_faults known) (link_faults known) link_is (λ e. refl) chain_is 5 R x
+  expr_of R x = ranked_stand tree.link tree.chain (expr_faults known) (link_faults known) (λ t e. link_has_faults known (op_of t.kind) e t.from) (λ e. refl) (λ e l ls. chain_has_faults known e (l ∷ ls)) 5 R x
 
   leaf : (d : ℕ) → ExprStand (rule.Leaf d)
   leaf d =
       either_stand (Made tree.number (One is_number)) (Made expr.Place (rule.Place d)) (expr_faults known)
       (made_stand tree.number (One is_number) (expr_faults known)
-      (one_stand is_number (λ t. expr_faults known (tree.number t)) (λ t. subst (Within t.from (suc t.from)) (sym (number_is (number_of t.kind))) (tt, tt))))
-      (made_stand expr.Place (rule.Place d) (expr_faults known) (same_stand (rule.Place d) (λ p. expr_faults known (expr.Place p)) (place_faults known) place_is (place_stands d)))
+      (one_stand is_number (λ t. expr_faults known (tree.number t)) (λ t. subst (Within t.from (suc t.from)) (sym (number_has_faults known (number_of t.kind))) (tt, tt))))
+      (made_stand expr.Place (rule.Place d) (expr_faults known) (same_stand (rule.Place d) (λ p. expr_faults known (expr.Place p)) (place_faults known) (place_has_faults known) (place_stands d)))
 
   negated : (R : Phrase Token RawExpr) → ExprStand R → ExprStand (rule.Negated R)
   negated R x =
       made_stand tree.minus (Both (One (sign m.Minus)) R) (expr_faults known)
-      (same_stand (Both (One (sign m.Minus)) R) (λ p. expr_faults known (tree.minus p)) (λ p. expr_faults known p.1) (λ p. minus_is p.1 p.0.from)
+      (same_stand (Both (One (sign m.Minus)) R) (λ p. expr_faults known (tree.minus p)) (λ p. expr_faults known p.1) (λ p. minus_has_faults known p.1 p.0.from)
       (behind_stand (One (sign m.Minus)) R (expr_faults known) x))
 
   group : (R : Phrase Token RawExpr) → ExprStand R → ExprStand (rule.Group R)
@@ -219,7 +174,7 @@ module _ (known : Known) where
       made_stand tree.pair (Both (One is_pair) (Both (One (sign m.OpenParen)) (Then R (Last R)))) (expr_faults known)
       (same_stand (Both (One is_pair) (Both (One (sign m.OpenParen)) (Then R (Last R)))) (λ p. expr_faults known (tree.pair p))
       (λ p. expr_faults known p.1.1.0 ++ (expr_faults known p.1.1.1.1.0 ++ []))
-      (λ p. call_is (op_of p.0.kind) (p.1.1.0 ∷ p.1.1.1.1.0 ∷ []) p.0.from)
+      (λ p. call_has_faults known (op_of p.0.kind) (p.1.1.0 ∷ p.1.1.1.1.0 ∷ []) p.0.from)
       (behind_stand (One is_pair) (Both (One (sign m.OpenParen)) (Then R (Last R))) (λ p. expr_faults known p.1.0 ++ (expr_faults known p.1.1.1.0 ++ []))
       (behind_stand (One (sign m.OpenParen)) (Then R (Last R)) (λ p. expr_faults known p.0 ++ (expr_faults known p.1.1.0 ++ []))
       (then_stands R (Last R) (λ p. expr_faults known p.0 ++ []) x (last_stands R x)))))
@@ -229,7 +184,7 @@ module _ (known : Known) where
       made_stand tree.triple (Both (One is_triple) (Both (One (sign m.OpenParen)) (Then R (Then R (Last R))))) (expr_faults known)
       (same_stand (Both (One is_triple) (Both (One (sign m.OpenParen)) (Then R (Then R (Last R))))) (λ p. expr_faults known (tree.triple p))
       (λ p. expr_faults known p.1.1.0 ++ (expr_faults known p.1.1.1.1.0 ++ (expr_faults known p.1.1.1.1.1.1.0 ++ [])))
-      (λ p. call_is (op_of p.0.kind) (p.1.1.0 ∷ p.1.1.1.1.0 ∷ p.1.1.1.1.1.1.0 ∷ []) p.0.from)
+      (λ p. call_has_faults known (op_of p.0.kind) (p.1.1.0 ∷ p.1.1.1.1.0 ∷ p.1.1.1.1.1.1.0 ∷ []) p.0.from)
       (behind_stand (One is_triple) (Both (One (sign m.OpenParen)) (Then R (Then R (Last R)))) (λ p. expr_faults known p.1.0 ++ (expr_faults known p.1.1.1.0 ++ (expr_faults known p.1.1.1.1.1.0 ++ [])))
       (behind_stand (One (sign m.OpenParen)) (Then R (Then R (Last R))) (λ p. expr_faults known p.0 ++ (expr_faults known p.1.1.0 ++ (expr_faults known p.1.1.1.1.0 ++ [])))
       (then_stands R (Then R (Last R)) (λ p. expr_faults known p.0 ++ (expr_faults known p.1.1.0 ++ [])) x
@@ -282,9 +237,9 @@ module _ (known : Known) where
   header_stands : (d : ℕ) → Stand (rule.Header d) (header_faults known)
   header_stands d =
       made_stand tree.header (Both (One (token.word w.Loop)) (Both (One is_name) (Both (One (token.word w.Input)) (Bounds d)))) (header_faults known)
-      (behind_stand (One (token.word w.Loop)) (Both (One is_name) (Both (One (token.word w.Input)) (Bounds d))) (λ p. twice_faults (meaning known (span p.0)) p.0.from ++ bounds_faults p.1.1)
-      (both_stand (One is_name) (Both (One (token.word w.Input)) (Bounds d)) (λ t. twice_faults (meaning known (span t)) t.from) (λ t p. bounds_faults p.1)
-      (one_stand is_name (λ t. twice_faults (meaning known (span t)) t.from) (λ t. twice_stands (meaning known (span t)) t.from))
+      (behind_stand (One (token.word w.Loop)) (Both (One is_name) (Both (One (token.word w.Input)) (Bounds d))) (λ p. twice_faults (name_meaning known (span p.0)) p.0.from ++ bounds_faults p.1.1)
+      (both_stand (One is_name) (Both (One (token.word w.Input)) (Bounds d)) (λ t. twice_faults (name_meaning known (span t)) t.from) (λ t p. bounds_faults p.1)
+      (one_stand is_name (λ t. twice_faults (name_meaning known (span t)) t.from) (λ t. twice_stands (name_meaning known (span t)) t.from))
       (λ t. behind_stand (One (token.word w.Input)) (Bounds d) bounds_faults (bounds_stand d))))
 
   condition_stands : (d : ℕ) → Stand (rule.Condition d) (condition_faults known)
@@ -382,15 +337,15 @@ module _ (text : List ℕ) where
 
   -- the faults of a declaration behind others
   abbrev decl_faults : List Declared → RawDecl → List NameFault
-  decl_faults earlier d = twice_faults (meaning (known_in text earlier []) d.name) d.name.from ++ sizes_faults d.sizes
+  decl_faults earlier d = twice_faults (name_meaning (known_in text earlier []) d.name) d.name.from ++ sizes_faults d.sizes
 
   decl_stands : (earlier : List Declared) → Stand rule.Declared (decl_faults earlier)
   decl_stands earlier =
       let known = known_in text earlier [] in
       made_stand tree.declare (Both (One is_role) (Both (One is_name) (Both (rule.Brackets rule.Size) (One (sign m.Semicolon))))) (decl_faults earlier)
-      (behind_stand (One is_role) (Both (One is_name) (Both (rule.Brackets rule.Size) (One (sign m.Semicolon)))) (λ p. twice_faults (meaning known (span p.0)) p.0.from ++ sizes_faults p.1.0)
-      (both_stand (One is_name) (Both (rule.Brackets rule.Size) (One (sign m.Semicolon))) (λ t. twice_faults (meaning known (span t)) t.from) (λ t p. sizes_faults p.0)
-      (one_stand is_name (λ t. twice_faults (meaning known (span t)) t.from) (λ t. twice_stands (meaning known (span t)) t.from))
+      (behind_stand (One is_role) (Both (One is_name) (Both (rule.Brackets rule.Size) (One (sign m.Semicolon)))) (λ p. twice_faults (name_meaning known (span p.0)) p.0.from ++ sizes_faults p.1.0)
+      (both_stand (One is_name) (Both (rule.Brackets rule.Size) (One (sign m.Semicolon))) (λ t. twice_faults (name_meaning known (span t)) t.from) (λ t p. sizes_faults p.0)
+      (one_stand is_name (λ t. twice_faults (name_meaning known (span t)) t.from) (λ t. twice_stands (name_meaning known (span t)) t.from))
       (λ t. front_stand (rule.Brackets rule.Size) (One (sign m.Semicolon)) sizes_faults (brackets_stand rule.Size size_faults sizes_faults refl (λ a more. refl) size_stands))))
 
   decls_stand : (earlier : List Declared) → Stand (Many rule.Declared) (decls_faults text earlier)

@@ -19,7 +19,7 @@ use Rattle.kernel_parser.proofs.GoodKernels.{kernel_holds}
 use Rattle.kernel_syntax.proofs.KernelSteps.{whole_step}
 use Rattle.kernel_parser.proofs.ReadKernels.{text_fits}
 use Rattle.token_grammar.specs.declared.fault.GrammarFault.{GrammarFault}
-use Rattle.token_grammar.specs.Faults.{IsFaultOf}
+use Rattle.token_grammar.specs.Faults.{IsGrammarFault}
 use Rattle.token_grammar.specs.Readers.{first}
 use Rattle.token_grammar.proofs.Texts.{only_reading, one_fault, never_both as no_syntax_fault, word_or_fault}
 
@@ -71,7 +71,7 @@ kernel_without_fault text k c at h (inr (inr (inr f))) = names_or text c at h.to
 one_syntax_fault : (text : List ℕ) (c d at place : ℕ) → IsSyntaxFault text c at → IsSyntaxFault text d place → (c ≡ d) × (at ≡ place)
 one_syntax_fault text c d at place h g =
     let same : h.tokens ≡ g.tokens = one_token_list text h.tokens g.tokens h.spelled g.spelled in
-    let e = one_fault Whole 32 h.fault g.fault g.tokens h.rest g.rest (subst (λ z. IsFaultOf Whole 32 h.fault z h.rest) same h.here) g.here in
+    let e = one_fault Whole 32 h.fault g.fault g.tokens h.rest g.rest (subst (λ z. IsGrammarFault Whole 32 h.fault z h.rest) same h.here) g.here in
     (h.code_is ∙ ap syntax_code e.0 ∙ sym g.code_is, h.at_is ∙ ap (place_of (length text)) e.1 ∙ sym g.at_is)
 
 one_entry : (c d at place : ℕ) (o : Option NameFault) → o ≡ Some (record { code = c; at = at }) → o ≡ Some (record { code = d; at = place }) → (c ≡ d) × (at ≡ place)
@@ -114,7 +114,7 @@ by_names : (text : List ℕ) (ts : List Token) (a : RawKernel) → IsWritten tex
 by_names text ts a w [] e = inl (tree_of text a, record { tokens = ts; raw = a; written = w; faultless = e; means = refl })
 by_names text ts a w (f ∷ fs) e = inr (f.code, f.at, inr (inr (inr (record { tokens = ts; raw = a; written = w; here = ap first e }))))
 
-by_syntax : (text : List ℕ) (ts : List Token) → length text ≤ 65536 → AreTextTokens text ts → ((a : RawKernel) × Whole 32 ts a) ⊎ ((f : GrammarFault) × (rest : List Token) × IsFaultOf Whole 32 f ts rest) → Answer text
+by_syntax : (text : List ℕ) (ts : List Token) → length text ≤ 65536 → AreTextTokens text ts → ((a : RawKernel) × Whole 32 ts a) ⊎ ((f : GrammarFault) × (rest : List Token) × IsGrammarFault Whole 32 f ts rest) → Answer text
 by_syntax text ts short s (inl (a, r)) = by_names text ts a (record { short = short; spelled = s; read = r }) (name_faults text a) refl
 by_syntax text ts short s (inr (f, rest, h)) =
     inr (syntax_code f, place_of (length text) rest, inr (inr (inl (record { short = short; tokens = ts; spelled = s; fault = f; rest = rest; here = h; code_is = refl; at_is = refl }))))

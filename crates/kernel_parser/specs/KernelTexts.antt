@@ -17,7 +17,7 @@ use Rattle.kernel_syntax.specs.Reading.{place_of}
 use Rattle.kernel_parser.specs.Resolved.{tree_of}
 use Rattle.token_grammar.specs.declared.fault.GrammarFault.{GrammarFault}
 use Rattle.token_grammar.specs.declared.fault.GrammarFault.TheVariants.{Syntax, TooDeep}
-use Rattle.token_grammar.specs.Faults.{IsFaultOf}
+use Rattle.token_grammar.specs.Faults.{IsGrammarFault}
 use Rattle.token_grammar.specs.Readers.{first}
 
 -- ---- kernels
@@ -69,7 +69,7 @@ pub record IsSyntaxFault (text : List ℕ) (code at : ℕ) : Type 0 where
   pub spelled : AreTextTokens text tokens
   pub fault : GrammarFault
   pub rest : List Token
-  pub here : IsFaultOf Whole 32 fault tokens rest
+  pub here : IsGrammarFault Whole 32 fault tokens rest
   pub code_is : code ≡ syntax_code fault
   pub at_is : at ≡ place_of (length text) rest
 

@@ -2,8 +2,8 @@
 use Rattle.std.specs.Prelude.{ℕ, ℤ, pos, int_le, Bool, ◌&&◌, ◌==◌, List, [], ◌∷◌, ◌++◌, map, length, Option, Some, None, position, slice_get, slice_range, bytes_eq, unsigned_abs}
 use Rattle.kernel_ast.specs.KernelParts.{Declared}
 use Rattle.kernel_ast.specs.WellFormed.{has_sizes, is_writable}
-use Rattle.kernel_parser.specs.declared.names.scope.Meaning.{Meaning}
-use Rattle.kernel_parser.specs.declared.names.scope.Meaning.TheVariants.{Turn, Element, Unknown}
+use Rattle.kernel_parser.specs.declared.names.scope.NameMeaning.{NameMeaning}
+use Rattle.kernel_parser.specs.declared.names.scope.NameMeaning.TheVariants.{Turn, Element, Unknown}
 use Rattle.kernel_parser.specs.declared.names.fault.NameRule.TheVariants as faults
 use Rattle.kernel_ast.specs.Walk.{joined}
 use Rattle.kernel_parser.specs.NameFaults.{NameFault, fault, unless}
@@ -47,19 +47,19 @@ abbrev pub declared_at : List Declared → List ℕ → Option ℕ
 declared_at decls name = position (bytes_eq name) (map (λ d. d.0) decls)
 
 -- an open loop stands before a declaration
-abbrev pub meaning_by : Option ℕ → Option ℕ → Meaning
-meaning_by (Some k) d = Turn k
-meaning_by None (Some d) = Element d
-meaning_by None None = Unknown
+abbrev pub name_meaning_by : Option ℕ → Option ℕ → NameMeaning
+name_meaning_by (Some k) d = Turn k
+name_meaning_by None (Some d) = Element d
+name_meaning_by None None = Unknown
 
 -- what the name stands for
-abbrev pub meaning : Known → Span → Meaning
-meaning known s = meaning_by (open_at known.loops (word known.text s)) (declared_at known.decls (word known.text s))
+abbrev pub name_meaning : Known → Span → NameMeaning
+name_meaning known s = name_meaning_by (open_at known.loops (word known.text s)) (declared_at known.decls (word known.text s))
 
 -- ---- faults
 
 -- in an index only open loops are known
-abbrev pub index_name_faults : Meaning → ℕ → List NameFault
+abbrev pub index_name_faults : NameMeaning → ℕ → List NameFault
 index_name_faults (Turn k) at = []
 index_name_faults (Element d) at = fault faults.Unknown at ∷ []
 index_name_faults Unknown at = fault faults.Unknown at ∷ []
@@ -67,7 +67,7 @@ index_name_faults Unknown at = fault faults.Unknown at ∷ []
 -- one layer of an index
 abbrev pub index_faults_step : Known → index.RawIndexTree-F (List NameFault) (List NameFault) → List NameFault
 index_faults_step known (index.Number n) = []
-index_faults_step known (index.Name s) = index_name_faults (meaning known s) s.from
+index_faults_step known (index.Name s) = index_name_faults (name_meaning known s) s.from
 index_faults_step known (index.Minus value) = value
 index_faults_step known (index.Chain left rest) = left ++ joined rest
 
@@ -92,24 +92,24 @@ abbrev pub indices_faults : Known → List RawIndex → List NameFault
 indices_faults known is = joined (map (index_faults known) is)
 
 -- the faults of a name with so many indices in an expression: an open loop has none, an element as many as it has sizes
-abbrev pub read_faults : List Declared → Meaning → ℕ → ℕ → List NameFault
+abbrev pub read_faults : List Declared → NameMeaning → ℕ → ℕ → List NameFault
 read_faults decls (Turn k) count at = unless (count == 0) faults.Indices at
 read_faults decls (Element d) count at = unless (has_sizes count (slice_get decls d)) faults.Indices at
 read_faults decls Unknown count at = fault faults.Unknown at ∷ []
 
 -- the faults of a name with so many indices that is assigned to: it is an element and no input
-abbrev pub target_faults : List Declared → Meaning → ℕ → ℕ → List NameFault
+abbrev pub target_faults : List Declared → NameMeaning → ℕ → ℕ → List NameFault
 target_faults decls (Turn k) count at = fault faults.NotWritable at ∷ []
 target_faults decls (Element d) count at = unless (is_writable (slice_get decls d)) faults.NotWritable at ++ unless (has_sizes count (slice_get decls d)) faults.Indices at
 target_faults decls Unknown count at = fault faults.Unknown at ∷ []
 
 -- the faults of a place in an expression: of its name, and of its indices
 abbrev pub place_faults : Known → RawPlace → List NameFault
-place_faults known p = read_faults known.decls (meaning known p.name) (length p.indices) p.name.from ++ indices_faults known p.indices
+place_faults known p = read_faults known.decls (name_meaning known p.name) (length p.indices) p.name.from ++ indices_faults known p.indices
 
 -- the faults of a place that is assigned to
 abbrev pub target_place_faults : Known → RawPlace → List NameFault
-target_place_faults known p = target_faults known.decls (meaning known p.name) (length p.indices) p.name.from ++ indices_faults known p.indices
+target_place_faults known p = target_faults known.decls (name_meaning known p.name) (length p.indices) p.name.from ++ indices_faults known p.indices
 
 -- one layer of an expression
 abbrev pub expr_faults_step : Known → RawExpr-F (List NameFault) (List NameFault) → List NameFault
@@ -132,7 +132,7 @@ abbrev pub link_faults : Known → RawLink → List NameFault
 link_faults known = fold-RawLink (List NameFault) (List NameFault) (expr_faults_step known) link_step
 
 -- a name that is made known must not be known yet
-abbrev pub twice_faults : Meaning → ℕ → List NameFault
+abbrev pub twice_faults : NameMeaning → ℕ → List NameFault
 twice_faults (Turn k) at = fault faults.Twice at ∷ []
 twice_faults (Element d) at = fault faults.Twice at ∷ []
 twice_faults Unknown at = []
@@ -144,7 +144,7 @@ step_faults known (Some by) = index_faults known by
 
 -- the faults of what stands before a loop's body: the loop's name is not known there
 abbrev pub header_faults : Known → RawLoop → List NameFault
-header_faults known l = twice_faults (meaning known l.name) l.name.from ++ (index_faults known l.from ++ (index_faults known l.to ++ step_faults known l.by))
+header_faults known l = twice_faults (name_meaning known l.name) l.name.from ++ (index_faults known l.from ++ (index_faults known l.to ++ step_faults known l.by))
 
 -- the faults of the sides of a branch
 abbrev pub condition_faults : Known → RawBranch → List NameFault
@@ -198,7 +198,7 @@ declared text d = (word text d.name, record { kind = d.kind; sizes = map size_of
 abbrev pub decls_faults : List ℕ → List Declared → List RawDecl → List NameFault
 decls_faults text earlier [] = []
 decls_faults text earlier (d ∷ more) =
-    (twice_faults (meaning (known_in text earlier []) d.name) d.name.from ++ sizes_faults d.sizes) ++ decls_faults text (earlier ++ declared text d ∷ []) more
+    (twice_faults (name_meaning (known_in text earlier []) d.name) d.name.from ++ sizes_faults d.sizes) ++ decls_faults text (earlier ++ declared text d ∷ []) more
 
 -- all faults of the names of a kernel, as they are read
 abbrev pub name_faults : List ℕ → RawKernel → List NameFault

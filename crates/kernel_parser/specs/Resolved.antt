@@ -12,8 +12,8 @@ use Rattle.kernel_ast.specs.declared.tree.Expr.TheVariants as expr
 use Rattle.kernel_ast.specs.declared.tree.Link.{Link, roll-Link}
 use Rattle.kernel_ast.specs.declared.tree.Stmt.{Stmt}
 use Rattle.kernel_ast.specs.declared.tree.Stmt.TheVariants as stmt
-use Rattle.kernel_parser.specs.declared.names.scope.Meaning.{Meaning}
-use Rattle.kernel_parser.specs.declared.names.scope.Meaning.TheVariants.{Turn, Element, Unknown}
+use Rattle.kernel_parser.specs.declared.names.scope.NameMeaning.{NameMeaning}
+use Rattle.kernel_parser.specs.declared.names.scope.NameMeaning.TheVariants.{Turn, Element, Unknown}
 use Rattle.kernel_syntax.specs.declared.raw.RawIndexTree.{RawIndexTree, fold-RawIndexTree}
 use Rattle.kernel_syntax.specs.declared.raw.RawIndexTree.TheOpen as raw_index
 use Rattle.kernel_syntax.specs.declared.raw.RawIndexTree.TheFolds.{fold-RawIndexLink}
@@ -27,10 +27,10 @@ use Rattle.kernel_syntax.specs.declared.raw.RawLink.{RawLink}
 use Rattle.kernel_syntax.specs.declared.raw.RawStmt.{RawStmt, fold-RawStmt}
 use Rattle.kernel_syntax.specs.declared.raw.RawStmt.TheOpen.{RawStmt-F, Assign, Loop, Branch}
 use Rattle.kernel_syntax.specs.declared.raw.RawKernel.{RawKernel}
-use Rattle.kernel_parser.specs.Names.{Known, meaning, word, known_in, declared}
+use Rattle.kernel_parser.specs.Names.{Known, name_meaning, word, known_in, declared}
 
 -- what a name in an index stands for
-abbrev pub turn_of : Meaning → IndexTree
+abbrev pub turn_of : NameMeaning → IndexTree
 turn_of (Turn k) = index.Turn k
 turn_of (Element d) = index.Number (pos 0)
 turn_of Unknown = index.Number (pos 0)
@@ -38,7 +38,7 @@ turn_of Unknown = index.Number (pos 0)
 -- one layer of an index
 abbrev pub index_tree_step : Known → raw_index.RawIndexTree-F IndexTree IndexLink → IndexTree
 index_tree_step known (raw_index.Number n) = index.Number n
-index_tree_step known (raw_index.Name s) = turn_of (meaning known s)
+index_tree_step known (raw_index.Name s) = turn_of (name_meaning known s)
 index_tree_step known (raw_index.Minus value) = index.Minus value
 index_tree_step known (raw_index.Chain left rest) = index.Chain left rest
 
@@ -64,24 +64,24 @@ step_of known None = None
 step_of known (Some by) = Some (index_of known by)
 
 -- a name in an expression: the index of an open loop, or an element
-abbrev pub read_of : Meaning → List Index → ℕ → Expr
+abbrev pub read_of : NameMeaning → List Index → ℕ → Expr
 read_of (Turn k) indices at = expr.Turn k
 read_of (Element d) indices at = expr.Cell (record { decl = d; indices = indices; at = at })
 read_of Unknown indices at = expr.Number (pos 0)
 
 -- a place in an expression
 abbrev pub place_of : Known → RawPlace → Expr
-place_of known p = read_of (meaning known p.name) (map (index_of known) p.indices) p.name.from
+place_of known p = read_of (name_meaning known p.name) (map (index_of known) p.indices) p.name.from
 
 -- the declaration that a target names
-abbrev pub decl_of : Meaning → ℕ
+abbrev pub decl_of : NameMeaning → ℕ
 decl_of (Turn k) = 0
 decl_of (Element d) = d
 decl_of Unknown = 0
 
 -- a place that is assigned to
 abbrev pub target_of : Known → RawPlace → Place
-target_of known p = record { decl = decl_of (meaning known p.name); indices = map (index_of known) p.indices; at = p.name.from }
+target_of known p = record { decl = decl_of (name_meaning known p.name); indices = map (index_of known) p.indices; at = p.name.from }
 
 -- one layer of an expression
 abbrev pub expr_step : Known → RawExpr-F Expr Link → Expr

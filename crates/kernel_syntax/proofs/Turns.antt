@@ -1,11 +1,13 @@
 -- What a function of the parser owes at its choices and in its loops.
 use Rattle.std.proofs.Common.{◌≡◌, ℕ, zero, suc, ◌-◌, ◌<◌, ◌≤◌, Bool, true, false, cond, List, Option, refl, sym, ap, ◌∙◌, arith}
 use Rattle.kernel_lexer.specs.declared.token.Keyword.TheVariants as w
+use Rattle.kernel_lexer.specs.declared.token.Mark.TheVariants as m
 use Rattle.kernel_lexer.specs.declared.token.Token.{Token}
-use Rattle.kernel_syntax.specs.Tokens.{word, is_operator, opens_index, opens, opens_statement, is_role, starts}
+use Rattle.kernel_syntax.specs.Tokens.{word, sign, is_pair, is_operator, opens_index, opens, opens_statement, is_role, starts}
 use Rattle.kernel_syntax.specs.Trees as tree
 use Rattle.kernel_syntax.specs.Grammar as rule
-use Rattle.kernel_syntax.specs.Parsing.{linked, chained, ranked, index_leaf, index_opened, index_unary, leaf, opened, unary, assigned, looped, branched, nested, statement, declared}
+use Rattle.kernel_syntax.specs.Parsing.{linked, chained, ranked, index_leaf, index_opened, index_unary, leaf, negated, group, pair, triple, pair_by_arguments, triple_by_arguments, opened, unary, expr, assigned, looped, branched, nested, statement, declared}
+use Rattle.kernel_syntax.proofs.Arguments.{pair_is, triple_is}
 use Rattle.kernel_syntax.proofs.Chains.{After, after_place, any_passes, place_passes, ranked_step}
 use Rattle.kernel_syntax.proofs.IndexSteps.{index_unary_step}
 use Rattle.kernel_syntax.proofs.ExprSteps.{unary_step}
@@ -51,6 +53,22 @@ unary_opened zero ts h e = absurd (omega arith)
 unary_opened (suc d) ts h e =
     let same : suc d - 1 ≡ d = omega arith in
     either_first (sees opens) (opened (unary d)) (leaf (suc d)) ts e ∙ ap (λ n. opened (unary n) ts) (sym same)
+
+-- a call of two arguments
+pub opened_pair : (d : ℕ) (ts : List Token) → sees (sign m.Minus) (first ts) ≡ false → sees (sign m.OpenParen) (first ts) ≡ false → sees is_pair (first ts) ≡ true → opened (unary d) ts ≡ pair_by_arguments (expr d) ts
+opened_pair d ts a b e =
+    either_second (sees (sign m.Minus)) (negated (unary d)) (either (sees (sign m.OpenParen)) (group (expr d)) (either (sees is_pair) (pair (expr d)) (triple (expr d)))) ts a
+    ∙ either_second (sees (sign m.OpenParen)) (group (expr d)) (either (sees is_pair) (pair (expr d)) (triple (expr d))) ts b
+    ∙ either_first (sees is_pair) (pair (expr d)) (triple (expr d)) ts e
+    ∙ pair_is (expr d) ts
+
+-- a call of three arguments
+pub opened_triple : (d : ℕ) (ts : List Token) → sees (sign m.Minus) (first ts) ≡ false → sees (sign m.OpenParen) (first ts) ≡ false → sees is_pair (first ts) ≡ false → opened (unary d) ts ≡ triple_by_arguments (expr d) ts
+opened_triple d ts a b e =
+    either_second (sees (sign m.Minus)) (negated (unary d)) (either (sees (sign m.OpenParen)) (group (expr d)) (either (sees is_pair) (pair (expr d)) (triple (expr d)))) ts a
+    ∙ either_second (sees (sign m.OpenParen)) (group (expr d)) (either (sees is_pair) (pair (expr d)) (triple (expr d))) ts b
+    ∙ either_second (sees is_pair) (pair (expr d)) (triple (expr d)) ts e
+    ∙ triple_is (expr d) ts
 
 pub statement_assigned : (d : ℕ) (ts : List Token) → sees opens_statement (first ts) ≡ false → statement d ts ≡ assigned d ts
 statement_assigned zero ts e = either_second (sees opens_statement) deep (assigned 0) ts e

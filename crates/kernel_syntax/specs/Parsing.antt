@@ -1,6 +1,7 @@
 -- The readers of the grammar's rules, one for each rule of the same name.
-use Rattle.std.specs.Prelude.{ℕ, zero, suc, Bool, List}
+use Rattle.std.specs.Prelude.{◌++◌, ℕ, zero, suc, Bool, List, [], ◌∷◌, Option}
 use Rattle.kernel_lexer.specs.declared.token.Keyword.TheVariants as w
+use Rattle.kernel_lexer.specs.declared.token.Mark.{Mark}
 use Rattle.kernel_lexer.specs.declared.token.Mark.TheVariants as m
 use Rattle.kernel_lexer.specs.declared.token.Token.{Token}
 use Rattle.kernel_syntax.specs.declared.raw.RawSize.{RawSize}
@@ -13,9 +14,9 @@ use Rattle.kernel_syntax.specs.declared.raw.RawLoop.{RawLoop}
 use Rattle.kernel_syntax.specs.declared.raw.RawBranch.{RawBranch}
 use Rattle.kernel_syntax.specs.declared.raw.RawStmt.{RawStmt}
 use Rattle.kernel_syntax.specs.declared.raw.RawKernel.{RawKernel}
-use Rattle.kernel_syntax.specs.Tokens.{is_name, is_number, word, sign, is_role, is_pair, is_triple, opens_index, opens, opens_statement, starts, is_relation, is_operator}
+use Rattle.kernel_syntax.specs.Tokens.{is_name, is_number, word, sign, is_role, is_pair, is_triple, opens_index, opens, opens_statement, starts, is_relation, is_operator, op_of}
 use Rattle.kernel_syntax.specs.Trees as tree
-use Rattle.token_grammar.specs.Readers.{Reader, sees, one, deep, both, made, either, many, maybe, closed}
+use Rattle.token_grammar.specs.Readers.{Reader, and_then, sees, one, deep, both, made, either, many, maybe, closed}
 
 -- ---- chains and brackets
 
@@ -84,11 +85,30 @@ negated p = made tree.minus (both (one (sign m.Minus)) p)
 abbrev pub group : Reader Token RawExpr → Reader Token RawExpr
 group p = made tree.inside (both (one (sign m.OpenParen)) (both p (last (sign m.CloseParen))))
 
+-- a sign and the argument after it, which joins those before
+abbrev pub argument : Mark → List RawExpr → Reader Token RawExpr → Reader Token (List RawExpr)
+argument mark before p = made (λ q. before ++ q.1 ∷ []) (both (one (sign mark)) p)
+
+-- the last argument of a call, of which the word and the arguments before it are read
+abbrev pub last_argument : Token → List RawExpr → Reader Token RawExpr → Reader Token RawExpr
+last_argument word before p = made (λ q. node.Call (op_of word.kind) q.0 word.from) (both (argument m.Comma before p) (last (sign m.CloseParen)))
+
 abbrev pub pair : Reader Token RawExpr → Reader Token RawExpr
 pair p = made tree.pair (both (one is_pair) (both (one (sign m.OpenParen)) (both p (both (one (sign m.Comma)) (both p (last (sign m.CloseParen)))))))
 
 abbrev pub triple : Reader Token RawExpr → Reader Token RawExpr
 triple p = made tree.triple (both (one is_triple) (both (one (sign m.OpenParen)) (both p (both (one (sign m.Comma)) (both p (both (one (sign m.Comma)) (both p (last (sign m.CloseParen)))))))))
+
+-- the reader of a pair, argument by argument
+abbrev pub pair_by_arguments : Reader Token RawExpr → Reader Token RawExpr
+pair_by_arguments p ts = and_then (one is_pair ts) (λ word behind. and_then (argument m.OpenParen [] p behind) (λ args rest. last_argument word args p rest))
+
+-- and that of a triple
+abbrev pub triple_by_arguments : Reader Token RawExpr → Reader Token RawExpr
+triple_by_arguments p ts =
+    and_then (one is_triple ts) (λ word behind.
+    and_then (argument m.OpenParen [] p behind) (λ args more.
+    and_then (argument m.Comma args p more) (λ two rest. last_argument word two p rest)))
 
 abbrev pub opened : Reader Token RawExpr → Reader Token RawExpr
 opened p = either (sees (sign m.Minus)) (negated p) (either (sees (sign m.OpenParen)) (group (expr_of p)) (either (sees is_pair) (pair (expr_of p)) (triple (expr_of p))))
@@ -115,6 +135,14 @@ block p = made tree.inside (both (one (sign m.OpenBrace)) (both (many (sees star
 -- behind a step stands no other
 abbrev pub step : ℕ → Reader Token RawIndex
 step d = made tree.behind (both (one (word w.By)) (closed (sees (word w.By)) (index d)))
+
+-- the upper bound and the step of a loop
+abbrev pub limits : ℕ → Reader Token (RawIndex × Option RawIndex)
+limits d = made tree.behind (both (one (sign m.Dots)) (both (index d) (maybe (sees (word w.By)) (step d))))
+
+-- the bounds and the step of a loop, of which the word and the name are read
+abbrev pub bounds : ℕ → Token → Token → Reader Token RawLoop
+bounds d first name = made (λ q. tree.header (first, (name, (first, (q.0, (first, q.1)))))) (both (index d) (limits d))
 
 abbrev pub header : ℕ → Reader Token RawLoop
 header d = made tree.header (both (one (word w.Loop)) (both (one is_name) (both (one (word w.Input)) (both (index d) (both (one (sign m.Dots)) (both (index d) (maybe (sees (word w.By)) (step d))))))))

@@ -5,9 +5,9 @@ use Rattle.kernel_syntax.specs.declared.syntax.SyntaxEnd.{SyntaxEnd}
 use Rattle.kernel_syntax.specs.declared.syntax.SyntaxEnd.TheVariants.{NoMemory, Fault}
 use Rattle.kernel_syntax.specs.Grammar.{Whole}
 use Rattle.kernel_syntax.specs.Reading.{place_of}
-use Rattle.token_grammar.specs.Faults.{IsFaultOf}
+use Rattle.token_grammar.specs.Faults.{IsGrammarFault}
 
 -- A fault is the first one of the tokens, at its token's place or at the end of the text.
 abbrev pub FaultMeans : ℕ → ℕ → List Token → SyntaxEnd → Type 0
 FaultMeans limit end tokens NoMemory = Unit {0}
-FaultMeans limit end tokens (Fault fault at) = (rest : List Token) × IsFaultOf Whole limit fault tokens rest × (at ≡ place_of end rest)
+FaultMeans limit end tokens (Fault fault at) = (rest : List Token) × IsGrammarFault Whole limit fault tokens rest × (at ≡ place_of end rest)

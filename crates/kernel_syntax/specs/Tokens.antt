@@ -17,7 +17,7 @@ use Rattle.kernel_syntax.specs.declared.class.TokenClass.{TokenClass}
 use Rattle.kernel_syntax.specs.declared.class.TokenClass.TheVariants as class
 use Rattle.kernel_syntax.specs.declared.raw.Span.{Span}
 
--- ---- a number for each kind of token, by which tests compare kinds
+-- ---- a number for each kind of token, by which tests compare kinds; two kinds have two numbers (`KindsAreApart` in Laws.antt)
 
 -- the numbers of reserved words
 abbrev pub keyword_tag : Keyword → ℕ
@@ -160,8 +160,9 @@ abbrev pub number_of : TokenKind → ℤ
 number_of (k.Number n) = n
 number_of _ = pos 0
 
--- the operation of an operator sign between operands, or of a function's word
+-- the operation of an operator sign between operands, or of a function's word; the grammar asks it of no other token
 abbrev pub op_of : TokenKind → Op
+op_of (k.Sign m.Plus) = op.Add
 op_of (k.Sign m.Minus) = op.Sub
 op_of (k.Sign m.Star) = op.Mul
 op_of (k.Sign m.And) = op.And
@@ -173,8 +174,9 @@ op_of (k.Word w.Sel) = op.Sel
 op_of (k.Word w.Mad) = op.Mad
 op_of _ = op.Add
 
--- how the sign of a relation compares
+-- how the sign of a relation compares; the grammar asks it of no other token
 abbrev pub relation_of : TokenKind → Relation
+relation_of (k.Sign m.Same) = rel.Equal
 relation_of (k.Sign m.Differs) = rel.NotEqual
 relation_of (k.Sign m.Less) = rel.Less
 relation_of (k.Sign m.AtMost) = rel.AtMost
@@ -182,8 +184,9 @@ relation_of (k.Sign m.More) = rel.More
 relation_of (k.Sign m.AtLeast) = rel.AtLeast
 relation_of _ = rel.Equal
 
--- what the word before a declared name says of it
+-- what the word before a declared name says of it; the grammar asks it of no other token
 abbrev pub role_of : TokenKind → DeclKind
 role_of (k.Word w.Input) = role.Input
 role_of (k.Word w.Output) = role.Output
+role_of (k.Word w.Temp) = role.Temp
 role_of _ = role.Temp

@@ -196,6 +196,7 @@ pub fn op_of(kind: TokenKind) -> Op
     ensures { result ≡ spec.op_of kind }
 {
     match kind {
+        TokenKind::Sign(Mark::Plus) => Op::Add,
         TokenKind::Sign(Mark::Minus) => Op::Sub,
         TokenKind::Sign(Mark::Star) => Op::Mul,
         TokenKind::Sign(Mark::And) => Op::And,
@@ -214,6 +215,7 @@ pub fn relation_of(kind: TokenKind) -> Relation
     ensures { result ≡ spec.relation_of kind }
 {
     match kind {
+        TokenKind::Sign(Mark::Same) => Relation::Equal,
         TokenKind::Sign(Mark::Differs) => Relation::NotEqual,
         TokenKind::Sign(Mark::Less) => Relation::Less,
         TokenKind::Sign(Mark::AtMost) => Relation::AtMost,
@@ -230,6 +232,7 @@ pub fn role_of(kind: TokenKind) -> DeclKind
     match kind {
         TokenKind::Word(Keyword::Input) => DeclKind::Input,
         TokenKind::Word(Keyword::Output) => DeclKind::Output,
+        TokenKind::Word(Keyword::Temp) => DeclKind::Temp,
         _ => DeclKind::Temp,
     }
 }

@@ -7,7 +7,7 @@ ghost use Rattle.kernel_syntax.specs.Reading.{Follows, tokens_of};
 use crate::class::{TokenClass, number_of, op_of};
 use crate::cursor::{Cursor, ReadStop};
 use crate::raw::{RawExpr, RawLink};
-use kernel_lexer::token::Mark;
+use kernel_lexer::token::{Mark, Token};
 use sqlite_items::{Boxed, Items};
 use std::alloc::{AllocError, Global};
 use token_grammar::fault::GrammarFault;
@@ -23,32 +23,6 @@ fn chained(alloc: Global, first: RawExpr, links: Items<RawLink>) -> Result<RawEx
     } else {
         Ok(RawExpr::Chain(Boxed::new(alloc, first)?, links))
     }
-}
-
-/// The arguments of a function of two.
-fn two(alloc: Global, first: RawExpr, second: RawExpr) -> Result<Items<RawExpr>, AllocError>
-    ensures { IfOk result (λ args. args ≡ first ∷ second ∷ []) }
-{
-    let mut args = Items::new(alloc);
-    args.push(first)?;
-    args.push(second)?;
-    Ok(args)
-}
-
-/// The arguments of a function of three.
-fn three(
-    alloc: Global,
-    first: RawExpr,
-    second: RawExpr,
-    third: RawExpr,
-) -> Result<Items<RawExpr>, AllocError>
-    ensures { IfOk result (λ args. args ≡ first ∷ second ∷ third ∷ []) }
-{
-    let mut args = Items::new(alloc);
-    args.push(first)?;
-    args.push(second)?;
-    args.push(third)?;
-    Ok(args)
 }
 
 impl<'a> Cursor<'a> {
@@ -104,34 +78,57 @@ impl<'a> Cursor<'a> {
         Ok(inner)
     }
 
+    /// Reads a sign and the argument after it, which joins those before.
     #[cycle(expr)]
-    fn pair(&mut self, alloc: Global, levels: usize) -> Result<RawExpr, ReadStop>
-        ensures { Follows (spec.pair (spec.expr levels) (tokens_of self.old)) result (tokens_of self.new) }
+    fn argument(
+        &mut self,
+        alloc: Global,
+        levels: usize,
+        mark: Mark,
+        before: Items<RawExpr>,
+    ) -> Result<Items<RawExpr>, ReadStop>
+        ensures { Follows (spec.argument mark before (spec.expr levels) (tokens_of self.old)) result (tokens_of self.new) }
     {
-        let word = self.expect(TokenClass::Pair)?;
-        self.expect(TokenClass::Sign(Mark::OpenParen))?;
-        let first = self.ranked(alloc, levels, LOOSEST)?;
-        self.expect(TokenClass::Sign(Mark::Comma))?;
-        let second = self.ranked(alloc, levels, LOOSEST)?;
+        self.expect(TokenClass::Sign(mark))?;
+        let value = self.ranked(alloc, levels, LOOSEST)?;
+        let mut args = before;
+        args.push(value)?;
+        Ok(args)
+    }
+
+    /// Reads the last argument of a call, of which the word and the arguments before it are read.
+    #[cycle(expr)]
+    fn last_argument(
+        &mut self,
+        alloc: Global,
+        levels: usize,
+        word: Token,
+        before: Items<RawExpr>,
+    ) -> Result<RawExpr, ReadStop>
+        ensures { Follows (spec.last_argument word before (spec.expr levels) (tokens_of self.old)) result (tokens_of self.new) }
+    {
+        let args = self.argument(alloc, levels, Mark::Comma, before)?;
         self.expect_last(TokenClass::Sign(Mark::CloseParen))?;
-        let args = two(alloc, first, second)?;
         Ok(RawExpr::Call(op_of(word.kind), args, word.from))
     }
 
     #[cycle(expr)]
+    fn pair(&mut self, alloc: Global, levels: usize) -> Result<RawExpr, ReadStop>
+        ensures { Follows (spec.pair_by_arguments (spec.expr levels) (tokens_of self.old)) result (tokens_of self.new) }
+    {
+        let word = self.expect(TokenClass::Pair)?;
+        let first = self.argument(alloc, levels, Mark::OpenParen, Items::new(alloc))?;
+        self.last_argument(alloc, levels, word, first)
+    }
+
+    #[cycle(expr)]
     fn triple(&mut self, alloc: Global, levels: usize) -> Result<RawExpr, ReadStop>
-        ensures { Follows (spec.triple (spec.expr levels) (tokens_of self.old)) result (tokens_of self.new) }
+        ensures { Follows (spec.triple_by_arguments (spec.expr levels) (tokens_of self.old)) result (tokens_of self.new) }
     {
         let word = self.expect(TokenClass::Triple)?;
-        self.expect(TokenClass::Sign(Mark::OpenParen))?;
-        let first = self.ranked(alloc, levels, LOOSEST)?;
-        self.expect(TokenClass::Sign(Mark::Comma))?;
-        let second = self.ranked(alloc, levels, LOOSEST)?;
-        self.expect(TokenClass::Sign(Mark::Comma))?;
-        let third = self.ranked(alloc, levels, LOOSEST)?;
-        self.expect_last(TokenClass::Sign(Mark::CloseParen))?;
-        let args = three(alloc, first, second, third)?;
-        Ok(RawExpr::Call(op_of(word.kind), args, word.from))
+        let first = self.argument(alloc, levels, Mark::OpenParen, Items::new(alloc))?;
+        let two = self.argument(alloc, levels, Mark::Comma, first)?;
+        self.last_argument(alloc, levels, word, two)
     }
 
     /// The levels of operators up to the rank.

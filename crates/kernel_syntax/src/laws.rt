@@ -1,5 +1,5 @@
-//! Laws of the grammar. A call does nothing: its contract is the law.
-ghost use Rattle.kernel_syntax.specs.Laws.{OneReading, MoreLevels, OneFault, NeverBoth, ReadingOrFault};
+//! Laws of the grammar, and of the kinds of tokens. A call does nothing: its contract is the law.
+ghost use Rattle.kernel_syntax.specs.Laws.{OneReading, MoreLevels, OneFault, NeverBoth, ReadingOrFault, KindsAreApart};
 
 /// Each list of tokens has exactly one of two: a reading within the limit, the only one of any number of levels, or a first fault,
 /// the only one.
@@ -9,4 +9,9 @@ pub fn one_answer()
     ensures fault { OneFault }
     ensures apart { NeverBoth }
     ensures always { ReadingOrFault }
+{}
+
+/// The tests by which the grammar asks for a token tell kinds apart: kinds that have one number are one kind, or both are numbers.
+pub fn kinds_are_apart()
+    ensures { KindsAreApart }
 {}

@@ -69,16 +69,32 @@ impl<'a> Cursor<'a> {
         }
     }
 
-    fn header(&mut self, alloc: Global, levels: usize) -> Result<RawLoop, ReadStop>
-        ensures { Follows (spec.header levels (tokens_of self.old)) result (tokens_of self.new) }
+    /// Reads the upper bound and the step of a loop.
+    fn limits(
+        &mut self,
+        alloc: Global,
+        levels: usize,
+    ) -> Result<(RawIndex, Option<RawIndex>), ReadStop>
+        ensures { Follows (spec.limits levels (tokens_of self.old)) result (tokens_of self.new) }
     {
-        let word = self.expect(TokenClass::Word(Keyword::Loop))?;
-        let name = self.expect(TokenClass::Name)?;
-        self.expect(TokenClass::Word(Keyword::Input))?;
-        let from = self.index(alloc, levels)?;
         self.expect(TokenClass::Sign(Mark::Dots))?;
         let to = self.index(alloc, levels)?;
         let by = self.step(alloc, levels)?;
+        Ok((to, by))
+    }
+
+    /// Reads the bounds and the step of a loop, of which the word and the name are read.
+    fn bounds(
+        &mut self,
+        alloc: Global,
+        levels: usize,
+        word: Token,
+        name: Token,
+    ) -> Result<RawLoop, ReadStop>
+        ensures { Follows (spec.bounds levels word name (tokens_of self.old)) result (tokens_of self.new) }
+    {
+        let from = self.index(alloc, levels)?;
+        let (to, by) = self.limits(alloc, levels)?;
         Ok(RawLoop {
             name: span(name),
             from,
@@ -86,6 +102,15 @@ impl<'a> Cursor<'a> {
             by,
             at: word.from,
         })
+    }
+
+    fn header(&mut self, alloc: Global, levels: usize) -> Result<RawLoop, ReadStop>
+        ensures { Follows (spec.header levels (tokens_of self.old)) result (tokens_of self.new) }
+    {
+        let word = self.expect(TokenClass::Word(Keyword::Loop))?;
+        let name = self.expect(TokenClass::Name)?;
+        let _within = self.expect(TokenClass::Word(Keyword::Input))?;
+        self.bounds(alloc, levels, word, name)
     }
 
     fn condition(&mut self, alloc: Global, levels: usize) -> Result<RawBranch, ReadStop>

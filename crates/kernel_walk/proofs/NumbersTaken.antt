@@ -1,5 +1,5 @@
 -- The numbers of a loop, one taken after the other.
-use Rattle.std.proofs.Common.{◌≡◌, List, length, Some, ℕ, ◌∷◌, [], ◌≤◌, ◌<◌, ◌-◌, ◌^◌, min, ℤ, pos, negsuc, ◌+ℤ◌, ◌<ℤ◌, ◌≤ℤ◌, refl, sym, ap, ◌∙◌, ⊎_elim, arith, w64, SFits}
+use Rattle.std.proofs.Common.{◌≡◌, List, length, Some, ◌∷◌, min, ℤ, pos, negsuc, ◌+ℤ◌, ◌<ℤ◌, ◌≤ℤ◌, refl, sym, ap, ◌∙◌, ⊎_elim, arith, w64, SFits}
 use Rattle.std.proofs.lemmas.Int.{ints}
 use Rattle.std.proofs.lemmas.Bool.Decides.{leb_tells}
 use Rattle.std.specs.Int.{saturate_signed}

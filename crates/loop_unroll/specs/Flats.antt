@@ -1,6 +1,8 @@
 -- The executed assignments of a kernel (this project's convention): the walk goes through the statements, and writes down each assignment
 -- that it meets, with the elements that its places name and the indices of the open loops as constants. A right side is written in
--- postfix order.
+-- postfix order. The definitions go as the loop of `unroll` does, and need not be trusted: by the law `flats_do_what_statements_do`
+-- (src/laws.rt), to go through the executed assignments with a stack is to execute the statements as Machine.antt of `kernel_ast` says.
+-- By the clause `walk` of `unroll`, their faults are those of the walk.
 use Rattle.std.specs.Prelude.{ℕ, ℤ, if◌then◌else◌, List, [], ◌∷◌, ◌++◌, map, Result, Ok}
 use Rattle.comp_graph.specs.declared.operation.Op.{Op}
 use Rattle.comp_graph.specs.declared.operation.Op.TheVariants as op

@@ -5,10 +5,11 @@ use Rattle.comp_graph.specs.declared.operation.Op.{Op}
 use Rattle.comp_graph.specs.declared.operation.Op.TheVariants as op
 use Rattle.comp_graph.specs.declared.node.Operand.{Operand}
 use Rattle.comp_graph.specs.declared.node.Operand.TheVariants.{Vertex, Const}
+use Rattle.comp_graph.specs.Operations.{value_at}
 use Rattle.kernel_ast.specs.KernelParts.{KernelParts}
 use Rattle.kernel_ast.specs.Steps.{and_then}
 use Rattle.kernel_ast.specs.Machine.{run_all}
-use Rattle.kernel_ast.specs.Meaning.{Held, Entry, entry, constants, add_constant, value_at, numbered, numbered_input, append_entry, fold_or_append, set_output, with_number, too_many_vertices}
+use Rattle.kernel_ast.specs.Meaning.{Held, Entry, entry, constants, add_constant, numbered, numbered_input, append_entry, fold_or_append, set_output, with_number, too_many_vertices}
 use Rattle.kernel_ast.proofs.Machines.{mapped, both, Pictures, run_pictured}
 use Rattle.source_machine.specs.declared.value.Value.{Value}
 use Rattle.source_machine.specs.Numbers.{value, counted, all_constant, output, numbers, input}

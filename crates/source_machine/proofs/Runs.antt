@@ -7,7 +7,7 @@ use Rattle.kernel_ast.specs.KernelParts.{KernelParts}
 use Rattle.kernel_ast.specs.Steps.{and_then, each}
 use Rattle.kernel_ast.specs.Walk.{walk_all}
 use Rattle.kernel_ast.specs.Machine.{State, enter, leave, put, no_elements, cells_of, execute_all, run_all}
-use Rattle.kernel_ast.specs.Meaning.{Held, Entry, meaning, fault_of, shape_fault, held_of, outputs, too_many_vertices, numbered, numbered_input}
+use Rattle.kernel_ast.specs.Meaning.{Held, Entry, kernel_meaning, fault_of, shape_fault, held_of, outputs, too_many_vertices, numbered, numbered_input}
 use Rattle.kernel_ast.proofs.Machines.{mapped, mapped-after}
 use Rattle.kernel_walk.proofs.ElementLoops.{each_from_is}
 use Rattle.kernel_walk.specs.declared.stop.Stop.{Stop}
@@ -46,7 +46,7 @@ phases_are k values =
 abbrev seen : List ℤ → List Held × List Entry → List Value × ℕ
 seen values r = (map (plain values) r.0, length r.1)
 
-evaluation_is : (k : KernelParts) (values : List ℤ) → mapped (seen values) (meaning k) ≡ evaluation k values
+evaluation_is : (k : KernelParts) (values : List ℤ) → mapped (seen values) (kernel_meaning k) ≡ evaluation k values
 evaluation_is k values = mapped-after (seen values) (walk_all k.decls k.body) (λ _. run_all numbered numbered_input k []) (λ _. run_all numbers (input values) k 0) (λ _. numbers_run values k)
 
 plain_numbers : (values : List ℤ) (held : List Held) → map (λ v. v.number) (map (plain values) held) ≡ map (λ h. h.number values) held
@@ -55,21 +55,21 @@ plain_numbers values (h ∷ held) = ap (λ more. h.number values ∷ more) (plai
 
 -- the fault of the one is that of the other, and the numbers are the outputs
 pub run_fault : (k : KernelParts) (values : List ℤ) (f : Fault) → phases k values ≡ Err f → shape_fault k ≡ Some f
-run_fault k values f e = tested (meaning k) (evaluation_is k values ∙ sym (phases_are k values) ∙ e)
+run_fault k values f e = tested (kernel_meaning k) (evaluation_is k values ∙ sym (phases_are k values) ∙ e)
   where
     tested : (o : Result (List Held × List Entry) Fault) → mapped (seen values) o ≡ Err f → fault_of o ≡ Some f
     tested (Ok r) e = cc
     tested (Err x) e = cc
 
 pub run_faultless : (k : KernelParts) (values : List ℤ) (r : List Value × ℕ) → phases k values ≡ Ok r → shape_fault k ≡ None
-run_faultless k values r e = tested (meaning k) (evaluation_is k values ∙ sym (phases_are k values) ∙ e)
+run_faultless k values r e = tested (kernel_meaning k) (evaluation_is k values ∙ sym (phases_are k values) ∙ e)
   where
     tested : (o : Result (List Held × List Entry) Fault) → mapped (seen values) o ≡ Ok r → fault_of o ≡ None
     tested (Ok s) e = refl
     tested (Err x) e = cc
 
 pub run_outputs : (k : KernelParts) (values : List ℤ) (r : List Value × ℕ) → phases k values ≡ Ok r → map (λ v. v.number) r.0 ≡ outputs k values
-run_outputs k values r e = tested (meaning k) (evaluation_is k values ∙ sym (phases_are k values) ∙ e)
+run_outputs k values r e = tested (kernel_meaning k) (evaluation_is k values ∙ sym (phases_are k values) ∙ e)
   where
     tested : (o : Result (List Held × List Entry) Fault) → mapped (seen values) o ≡ Ok r → map (λ v. v.number) r.0 ≡ map (λ h. h.number values) (held_of o)
     tested (Ok s) e = let same : seen values s ≡ r = cc in sym (ap (λ x. map (λ v. v.number) x.0) same) ∙ plain_numbers values s.0

@@ -1,6 +1,7 @@
 -- The machine of plain numbers: an element holds a number and whether it is a constant, and beside the elements the vertices are counted.
 use Rattle.std.specs.Prelude.{◌+◌, ℕ, ℤ, pos, nat_lt, Bool, true, false, ◌&&◌, if◌then◌else◌, List, [], ◌∷◌, map, Result, Ok, Err, slice_index_or}
 use Rattle.comp_graph.specs.declared.operation.Op.{Op}
+use Rattle.comp_graph.specs.Operations.{value_at}
 use Rattle.kernel_ast.specs.declared.tree.Expr.TheFolds.{fold-Link}
 use Rattle.kernel_ast.specs.declared.tree.Link.{Link}
 use Rattle.kernel_ast.specs.declared.element.Fault.{Fault}
@@ -9,7 +10,7 @@ use Rattle.kernel_ast.specs.RunRules.{most_vertices}
 use Rattle.kernel_ast.specs.Steps.{and_then}
 use Rattle.kernel_ast.specs.Walk.{walk_all}
 use Rattle.kernel_ast.specs.Machine.{Machine, Run, Elements, expr_step, link_step, run_all}
-use Rattle.kernel_ast.specs.Meaning.{value_at, too_many_vertices}
+use Rattle.kernel_ast.specs.Meaning.{too_many_vertices}
 use Rattle.source_machine.specs.declared.value.Value.{Value}
 
 -- a number, and whether it is a constant

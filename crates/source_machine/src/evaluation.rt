@@ -1,6 +1,6 @@
 //! The evaluation of expressions.
 ghost use Rattle.std.specs.Prelude.{◌≡◌, [], ◌∷◌, map, slice_index_or, pos};
-ghost use Rattle.kernel_ast.specs.Machine as meaning;
+ghost use Rattle.kernel_ast.specs.Machine as machine;
 ghost use Rattle.kernel_walk.specs.Outcomes.{Yields};
 ghost use Rattle.kernel_walk.specs.SetElements.{elements};
 ghost use Rattle.source_machine.specs.Numbers as spec;
@@ -82,7 +82,7 @@ pub struct Scope<'a> {
 
 impl<'a> Scope<'a> {
     fn read(&self, place: &Place, vertices: &mut u32) -> Result<Value, Stop>
-        ensures { Yields (meaning.read self.now.kernel.now.decls self.now.indices.now (elements self.now.written.now) place.now vertices.old) vertices.new result }
+        ensures { Yields (machine.read self.now.kernel.now.decls self.now.indices.now (elements self.now.written.now) place.now vertices.old) vertices.new result }
     {
         let cell = locate(self.kernel, self.indices, place)?;
         match self.written.get(cell) {
@@ -94,7 +94,7 @@ impl<'a> Scope<'a> {
     /// The value of an expression.
     #[cycle(evaluate)]
     pub fn evaluate(&self, expr: &Expr, vertices: &mut u32) -> Result<Value, Stop>
-        ensures { Yields (meaning.evaluate spec.numbers self.now.kernel.now.decls self.now.indices.now (elements self.now.written.now) expr.now vertices.old) vertices.new result }
+        ensures { Yields (machine.evaluate spec.numbers self.now.kernel.now.decls self.now.indices.now (elements self.now.written.now) expr.now vertices.old) vertices.new result }
     {
         match expr {
             Expr::Number(number) => Ok(Value {
@@ -124,7 +124,7 @@ impl<'a> Scope<'a> {
     /// A chain, read from the left.
     #[cycle(evaluate)]
     fn chain(&self, first: Value, rest: &[Link], vertices: &mut u32) -> Result<Value, Stop>
-        ensures { Yields (meaning.chain spec.numbers (map (spec.link_run self.now.kernel.now.decls self.now.indices.now (elements self.now.written.now)) rest.now) (first, vertices.old)) vertices.new result }
+        ensures { Yields (machine.chain spec.numbers (map (spec.link_run self.now.kernel.now.decls self.now.indices.now (elements self.now.written.now)) rest.now) (first, vertices.old)) vertices.new result }
     {
         let mut total = first;
         'each_link: for link in rest {
@@ -137,7 +137,7 @@ impl<'a> Scope<'a> {
     /// The arguments of a call, from left to right.
     #[cycle(evaluate)]
     fn arguments(&self, args: &[Expr], vertices: &mut u32) -> Result<Items<Value>, Stop>
-        ensures { Yields (meaning.arguments (map (meaning.evaluate spec.numbers self.now.kernel.now.decls self.now.indices.now (elements self.now.written.now)) args.now) ([], vertices.old)) vertices.new result }
+        ensures { Yields (machine.arguments (map (machine.evaluate spec.numbers self.now.kernel.now.decls self.now.indices.now (elements self.now.written.now)) args.now) ([], vertices.old)) vertices.new result }
     {
         let mut found = Items::new(self.alloc);
         'each_argument: for arg in args {

@@ -2,7 +2,7 @@
 ghost use Rattle.std.specs.Prelude.{◌≡◌, map, OnOk};
 ghost use Rattle.kernel_ast.specs.Steps.{each, in_turn};
 ghost use Rattle.kernel_ast.specs.Walk.{all_at};
-ghost use Rattle.kernel_ast.specs.Machine as meaning;
+ghost use Rattle.kernel_ast.specs.Machine as machine;
 ghost use Rattle.kernel_walk.specs.Outcomes.{Gives, AnswersAs};
 ghost use Rattle.source_machine.specs.Numbers as spec;
 ghost use Rattle.source_machine.specs.States.{entered, state};
@@ -25,7 +25,7 @@ pub struct Execution {
 impl Execution {
     /// The execution of the statements of a kernel, once its input elements are set.
     pub fn of(alloc: Global, kernel: &Kernel, inputs: Inputs) -> Result<Execution, Stop>
-        ensures { AnswersAs (meaning.execute_all spec.numbers kernel.now.decls kernel.now.body (entered inputs)) state result }
+        ensures { AnswersAs (machine.execute_all spec.numbers kernel.now.decls kernel.now.body (entered inputs)) state result }
     {
         let Inputs { written, vertices } = inputs;
         let mut execution = Execution {
@@ -46,7 +46,7 @@ impl Execution {
         target: &Place,
         value: &Expr,
     ) -> Result<(), Stop>
-        ensures executed { Gives (meaning.assign spec.numbers kernel.now.decls target.now value.now self.old.indices.items (state self.old)) (state self.new) result }
+        ensures executed { Gives (machine.assign spec.numbers kernel.now.decls target.now value.now self.old.indices.items (state self.old)) (state self.new) result }
         ensures same { self.new.indices ≡ self.old.indices }
     {
         let scope = Scope {
@@ -63,7 +63,7 @@ impl Execution {
 
     #[cycle(statements)]
     fn statement(&mut self, alloc: Global, kernel: &Kernel, stmt: &Stmt) -> Result<(), Stop>
-        ensures executed { Gives (meaning.execute spec.numbers kernel.now.decls stmt.now self.old.indices.items (state self.old)) (state self.new) result }
+        ensures executed { Gives (machine.execute spec.numbers kernel.now.decls stmt.now self.old.indices.items (state self.old)) (state self.new) result }
         ensures same { OnOk result (self.new.indices.items ≡ self.old.indices.items) }
     {
         match stmt {
@@ -104,7 +104,7 @@ impl Execution {
         body: &[Stmt],
         numbers: LoopNumbers,
     ) -> Result<(), Stop>
-        ensures executed { Gives (each (meaning.one_pass (map (meaning.execute spec.numbers kernel.now.decls) body.now) self.old.indices.items) numbers (state self.old)) (state self.new) result }
+        ensures executed { Gives (each (machine.one_pass (map (machine.execute spec.numbers kernel.now.decls) body.now) self.old.indices.items) numbers (state self.old)) (state self.new) result }
         ensures same { OnOk result (self.new.indices.items ≡ self.old.indices.items) }
     {
         'each_turn: for i in numbers {
@@ -122,7 +122,7 @@ impl Execution {
         body: &[Stmt],
         i: i64,
     ) -> Result<(), Stop>
-        ensures executed { Gives (meaning.one_pass (map (meaning.execute spec.numbers kernel.now.decls) body.now) self.old.indices.items i (state self.old)) (state self.new) result }
+        ensures executed { Gives (machine.one_pass (map (machine.execute spec.numbers kernel.now.decls) body.now) self.old.indices.items i (state self.old)) (state self.new) result }
         ensures same { OnOk result (self.new.indices.items ≡ self.old.indices.items) }
     {
         self.indices.push(i)?;
@@ -134,7 +134,7 @@ impl Execution {
     /// Executes statements, one after the other.
     #[cycle(statements)]
     fn statements(&mut self, alloc: Global, kernel: &Kernel, body: &[Stmt]) -> Result<(), Stop>
-        ensures executed { Gives (in_turn (all_at (map (meaning.execute spec.numbers kernel.now.decls) body.now) self.old.indices.items) (state self.old)) (state self.new) result }
+        ensures executed { Gives (in_turn (all_at (map (machine.execute spec.numbers kernel.now.decls) body.now) self.old.indices.items) (state self.old)) (state self.new) result }
         ensures same { OnOk result (self.new.indices.items ≡ self.old.indices.items) }
     {
         'each_statement: for stmt in body {

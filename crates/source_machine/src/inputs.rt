@@ -2,7 +2,7 @@
 ghost use Rattle.std.specs.Prelude.{◌≡◌};
 ghost use Rattle.kernel_ast.specs.declared.tree.DeclKind.TheVariants as kinds;
 ghost use Rattle.kernel_ast.specs.Steps.{each};
-ghost use Rattle.kernel_ast.specs.Machine as meaning;
+ghost use Rattle.kernel_ast.specs.Machine as machine;
 ghost use Rattle.kernel_walk.specs.ElementLoops.{cells_between, each_at, each_from};
 ghost use Rattle.kernel_walk.specs.Outcomes.{Gives, AnswersAs};
 ghost use Rattle.source_machine.specs.Numbers as spec;
@@ -39,7 +39,7 @@ impl Inputs {
 
     /// Sets an input element to the value of its place among them.
     fn enter(&mut self, values: &[i64], at: u32, cell: Cell) -> Result<(), Stop>
-        ensures { Gives (meaning.enter (spec.input values.now) (at, cell) (entered self.old)) (entered self.new) result }
+        ensures { Gives (machine.enter (spec.input values.now) (at, cell) (entered self.old)) (entered self.new) result }
     {
         let number = match values.get(self.vertices as usize) {
             Some(number) => *number,
@@ -52,7 +52,7 @@ impl Inputs {
 
     /// Sets all elements of a declaration.
     fn enter_cells(&mut self, values: &[i64], at: u32, decl: u16, size: u16) -> Result<(), Stop>
-        ensures { Gives (each (meaning.enter (spec.input values.now)) (cells_between at decl 0 size) (entered self.old)) (entered self.new) result }
+        ensures { Gives (each (machine.enter (spec.input values.now)) (cells_between at decl 0 size) (entered self.old)) (entered self.new) result }
     {
         'each_cell: for offset in 0..size {
             self.enter(values, at, Cell { decl, offset })?;
@@ -63,7 +63,7 @@ impl Inputs {
     /// Sets all elements of the declaration of this number, if it is of inputs.
     #[tactic(auto, unfolding(kernel_walk::specs::ElementLoops::each_of_decl))]
     fn enter_declaration(&mut self, kernel: &Kernel, values: &[i64], decl: u16) -> Result<(), Stop>
-        ensures { Gives (each_at (meaning.enter (spec.input values.now)) kinds.Input kernel.now.decls decl (entered self.old)) (entered self.new) result }
+        ensures { Gives (each_at (machine.enter (spec.input values.now)) kinds.Input kernel.now.decls decl (entered self.old)) (entered self.new) result }
     {
         let Some((_, declaration)) = kernel.decls().get_index(decl as usize) else {
             return Ok(());
@@ -79,7 +79,7 @@ impl Inputs {
 
     /// Sets all input elements.
     fn enter_all(&mut self, kernel: &Kernel, values: &[i64]) -> Result<(), Stop>
-        ensures { Gives (each_from (meaning.enter (spec.input values.now)) kinds.Input 0 kernel.now.decls (entered self.old)) (entered self.new) result }
+        ensures { Gives (each_from (machine.enter (spec.input values.now)) kinds.Input 0 kernel.now.decls (entered self.old)) (entered self.new) result }
     {
         'each_declaration: for decl in 0..kernel.decls().len() {
             self.enter_declaration(kernel, values, decl as u16)?;

@@ -2,7 +2,7 @@
 ghost use Rattle.std.specs.Prelude.{◌≡◌};
 ghost use Rattle.kernel_ast.specs.declared.tree.DeclKind.TheVariants as kinds;
 ghost use Rattle.kernel_ast.specs.Steps.{each};
-ghost use Rattle.kernel_ast.specs.Machine as meaning;
+ghost use Rattle.kernel_ast.specs.Machine as machine;
 ghost use Rattle.kernel_walk.specs.ElementLoops.{cells_between, each_at, each_from};
 ghost use Rattle.kernel_walk.specs.Outcomes.{Gives, Yields, AnswersAs};
 ghost use Rattle.kernel_walk.specs.SetElements.{elements};
@@ -52,7 +52,7 @@ impl Outputs {
 
     /// Reads an output element.
     fn leave(&mut self, written: &Written<Value>, at: u32, cell: Cell) -> Result<(), Stop>
-        ensures { Gives (meaning.leave spec.numbers (elements written.now) (at, cell) (left self.old)) (left self.new) result }
+        ensures { Gives (machine.leave spec.numbers (elements written.now) (at, cell) (left self.old)) (left self.new) result }
     {
         let Some(value) = written.get(cell) else {
             return Err(Stop::Fault(RunRule::OutputUnset.at(at)));
@@ -70,7 +70,7 @@ impl Outputs {
         decl: u16,
         size: u16,
     ) -> Result<(), Stop>
-        ensures { Gives (each (meaning.leave spec.numbers (elements written.now)) (cells_between at decl 0 size) (left self.old)) (left self.new) result }
+        ensures { Gives (each (machine.leave spec.numbers (elements written.now)) (cells_between at decl 0 size) (left self.old)) (left self.new) result }
     {
         'each_cell: for offset in 0..size {
             self.leave(written, at, Cell { decl, offset })?;
@@ -86,7 +86,7 @@ impl Outputs {
         written: &Written<Value>,
         decl: u16,
     ) -> Result<(), Stop>
-        ensures { Gives (each_at (meaning.leave spec.numbers (elements written.now)) kinds.Output kernel.now.decls decl (left self.old)) (left self.new) result }
+        ensures { Gives (each_at (machine.leave spec.numbers (elements written.now)) kinds.Output kernel.now.decls decl (left self.old)) (left self.new) result }
     {
         let Some((_, declaration)) = kernel.decls().get_index(decl as usize) else {
             return Ok(());
@@ -102,7 +102,7 @@ impl Outputs {
 
     /// Reads all output elements.
     fn leave_all(&mut self, kernel: &Kernel, written: &Written<Value>) -> Result<(), Stop>
-        ensures { Gives (each_from (meaning.leave spec.numbers (elements written.now)) kinds.Output 0 kernel.now.decls (left self.old)) (left self.new) result }
+        ensures { Gives (each_from (machine.leave spec.numbers (elements written.now)) kinds.Output 0 kernel.now.decls (left self.old)) (left self.new) result }
     {
         'each_declaration: for decl in 0..kernel.decls().len() {
             self.leave_declaration(kernel, written, decl as u16)?;

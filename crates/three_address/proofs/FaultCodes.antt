@@ -30,7 +30,7 @@ use Rattle.loop_unroll.specs.declared.flat.Item.{Item}
 use Rattle.loop_unroll.specs.declared.flat.Item.TheVariants.{Number, Read, Apply}
 use Rattle.loop_unroll.specs.declared.flat.Flat.{Flat}
 use Rattle.loop_unroll.specs.Flats.{flats, progress, unrolled_all}
-use Rattle.loop_unroll.specs.Plays.{pushed, below, play, play_flat}
+use Rattle.loop_unroll.specs.Plays.{below, play, play_flat}
 use Rattle.loop_unroll.proofs.Walks.{all_walked}
 use Rattle.three_address.specs.declared.element.Element.{Element}
 use Rattle.three_address.specs.LabelledElements.{elements_of}

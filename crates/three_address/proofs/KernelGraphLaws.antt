@@ -9,7 +9,7 @@ use Rattle.comp_graph.specs.declared.operation.Op.TheVariants as op
 use Rattle.comp_graph.specs.declared.node.Operand.{Operand}
 use Rattle.comp_graph.specs.declared.node.Operand.TheVariants.{Vertex, Const}
 use Rattle.comp_graph.specs.declared.node.Output.{Output}
-use Rattle.comp_graph.specs.Operations.{arity_of, value_of}
+use Rattle.comp_graph.specs.Operations.{arity_of, value_of, value_at}
 use Rattle.comp_graph.specs.Graphs.{GraphParts, IsGraph, IsNode, IsOperandBelow, operands_of}
 use Rattle.scratch_machine.specs.Machines as machine
 use Rattle.scratch_machine.specs.Values.{operand_value, AreValues, output_values}
@@ -21,7 +21,7 @@ use Rattle.kernel_ast.specs.Walk.{walk_all}
 use Rattle.kernel_ast.specs.Machine.{element_count, is_kind, cells_from, cells_of_decl, cells_of, run_all}
 use Rattle.kernel_ast.specs.declared.element.Fault.{Fault}
 use Rattle.kernel_ast.specs.Steps.{and_then}
-use Rattle.kernel_ast.specs.Meaning.{Held, Entry, numbered, numbered_input, value_at, meaning, held_of, fault_of, shape_fault, outputs}
+use Rattle.kernel_ast.specs.Meaning.{Held, Entry, numbered, numbered_input, kernel_meaning, held_of, fault_of, shape_fault, outputs}
 use Rattle.kernel_ast.specs.Labels.{labels_from, labels_of_decl, labels_of}
 use Rattle.kernel_ast.specs.KernelGraph.{padded, node_of, vertex_of, output_of, graph_by, graph_of}
 use Rattle.kernel_ast.specs.WellFormed.{IsWellFormed}
@@ -31,7 +31,7 @@ use Rattle.three_address.proofs.KernelRuns.{Ended, run_good, ok_next}
 
 -- ---- the value of a node
 
-three_values : (o : Op) (a b c : ℤ) → machine.value_at o (take (arity_of o) (a ∷ b ∷ c ∷ [])) ≡ value_of o a b c
+three_values : (o : Op) (a b c : ℤ) → value_at o (take (arity_of o) (a ∷ b ∷ c ∷ [])) ≡ value_of o a b c
 three_values op.Input a b c = refl
 three_values op.Set a b c = refl
 three_values op.Add a b c = refl
@@ -54,9 +54,9 @@ padded_values value (a ∷ []) = refl
 padded_values value (a ∷ b ∷ []) = refl
 padded_values value (a ∷ b ∷ c ∷ more) = refl
 
-node_value : (value : ℕ → ℤ) (e : Entry) → machine.value_at e.op (map (operand_value value) (operands_of (node_of e))) ≡ value_at e.op (map (operand_value value) e.operands)
+node_value : (value : ℕ → ℤ) (e : Entry) → value_at e.op (map (operand_value value) (operands_of (node_of e))) ≡ value_at e.op (map (operand_value value) e.operands)
 node_value value e =
-    ap (machine.value_at e.op) (sym (take-map (operand_value value) (arity_of e.op) (padded e.operands)) ∙ ap (take (arity_of e.op)) (padded_values value e.operands))
+    ap (value_at e.op) (sym (take-map (operand_value value) (arity_of e.op) (padded e.operands)) ∙ ap (take (arity_of e.op)) (padded_values value e.operands))
     ∙ three_values e.op _ _ _
 
 -- ---- counts of labels
@@ -133,12 +133,12 @@ pub record HasRun (k : KernelParts) (graph : GraphParts) : Type 0 where
   pub found : List Held
   pub log : List Entry
   pub ran : run_all numbered numbered_input k [] ≡ Ok (found, log)
-  pub meant : meaning k ≡ Ok (found, log)
+  pub meant : kernel_meaning k ≡ Ok (found, log)
   pub is : graph_by k (map (λ h. h.origin) found, log) ≡ graph
 
 pub has_run : (k : KernelParts) (graph : GraphParts) → graph_of k ≡ Ok graph → HasRun k graph
 has_run k graph e =
-    let made = ok_next (meaning k) (λ (r : List Held × List Entry). Ok (graph_by k (map (λ h. h.origin) r.0, r.1))) graph e in
+    let made = ok_next (kernel_meaning k) (λ (r : List Held × List Entry). Ok (graph_by k (map (λ h. h.origin) r.0, r.1))) graph e in
     let run = ok_next (walk_all k.decls k.body) (λ _. run_all numbered numbered_input k []) made.0 made.1 in
     let same : graph_by k (map (λ h. h.origin) (made.0).0, (made.0).1) ≡ graph = let f = made.2 in cc in
     record { found = (made.0).0; log = (made.0).1; ran = run.2; meant = made.1; is = same }
@@ -212,7 +212,7 @@ outputs-graph_of k graph values value well e count are =
 
 -- The graph of a kernel has the fault of its run.
 pub fault_of-graph_of : (k : KernelParts) → fault_of (graph_of k) ≡ shape_fault k
-fault_of-graph_of k = known (meaning k)
+fault_of-graph_of k = known (kernel_meaning k)
   where
     known : (o : Result (List Held × List Entry) Fault) → fault_of (and_then o (λ r. Ok (graph_by k (map (λ h. h.origin) r.0, r.1)))) ≡ fault_of o
     known (Ok r) = refl

@@ -8,14 +8,14 @@ use Rattle.comp_graph.specs.declared.operation.Op.{Op}
 use Rattle.comp_graph.specs.declared.operation.Op.TheVariants as op
 use Rattle.comp_graph.specs.declared.node.Operand.{Operand}
 use Rattle.comp_graph.specs.declared.node.Operand.TheVariants.{Vertex, Const}
-use Rattle.comp_graph.specs.Operations.{arity_of}
+use Rattle.comp_graph.specs.Operations.{arity_of, value_at}
 use Rattle.comp_graph.specs.Graphs.{IsNode, IsOperandBelow, IsConstant}
 use Rattle.scratch_machine.specs.Values.{operand_value}
 use Rattle.kernel_ast.specs.declared.element.Cell.{Cell}
 use Rattle.kernel_ast.specs.declared.element.Fault.{Fault}
 use Rattle.kernel_ast.specs.Steps.{and_then, each}
 use Rattle.kernel_ast.specs.Machine.{Elements, put, is_cell}
-use Rattle.kernel_ast.specs.Meaning.{Held, Entry, entry, constants, add_constant, value_at, numbered, append_entry, fold_or_append, set_output, with_number, too_many_vertices}
+use Rattle.kernel_ast.specs.Meaning.{Held, Entry, entry, constants, add_constant, numbered, append_entry, fold_or_append, set_output, with_number, too_many_vertices}
 use Rattle.kernel_ast.specs.KernelGraph.{padded, node_of}
 
 -- ---- values, and what a log must be

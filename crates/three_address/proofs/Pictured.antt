@@ -6,10 +6,11 @@ use Rattle.comp_graph.specs.declared.operation.Op.TheVariants as op
 use Rattle.comp_graph.specs.declared.node.Operand.{Operand}
 use Rattle.comp_graph.specs.declared.node.Operand.TheVariants.{Vertex, Const}
 use Rattle.comp_graph.specs.declared.node.Node.{Node}
+use Rattle.comp_graph.specs.Operations.{value_at}
 use Rattle.kernel_ast.specs.KernelParts.{KernelParts}
 use Rattle.kernel_ast.specs.Steps.{and_then}
 use Rattle.kernel_ast.specs.Machine.{run_all}
-use Rattle.kernel_ast.specs.Meaning.{Held, Entry, entry, constants, add_constant, value_at, numbered, numbered_input, append_entry, fold_or_append, set_output, with_number, too_many_vertices}
+use Rattle.kernel_ast.specs.Meaning.{Held, Entry, entry, constants, add_constant, numbered, numbered_input, append_entry, fold_or_append, set_output, with_number, too_many_vertices}
 use Rattle.kernel_ast.specs.KernelGraph.{node_of}
 use Rattle.kernel_ast.proofs.Machines.{mapped, both, Pictures, run_pictured}
 use Rattle.three_address.specs.Lowering.{node, append_node, is_constant, are_constants, number_of, folded_value, settle, lowering, input_node}

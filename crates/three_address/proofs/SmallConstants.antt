@@ -14,7 +14,7 @@ use Rattle.comp_graph.specs.declared.operation.Op.TheVariants as op
 use Rattle.comp_graph.specs.declared.node.Operand.{Operand}
 use Rattle.comp_graph.specs.declared.node.Operand.TheVariants.{Vertex, Const}
 use Rattle.comp_graph.specs.Graphs.{GraphParts}
-use Rattle.comp_graph.specs.Operations.{value_of, arity_of}
+use Rattle.comp_graph.specs.Operations.{value_of, arity_of, value_at}
 use Rattle.kernel_ast.specs.declared.tree.Index.{Index}
 use Rattle.kernel_ast.specs.declared.tree.IndexTree.{IndexTree, roll-IndexTree}
 use Rattle.kernel_ast.specs.declared.tree.IndexTree.TheOpen as index
@@ -37,7 +37,7 @@ use Rattle.kernel_ast.specs.Steps.{and_then, in_turn, each, rising, clipped, num
 use Rattle.kernel_ast.specs.Places.{located, loop_numbers, condition, turn, is_small, small, then_small, index_value_of, index_chain, index_step, index_link_step, index_value, ok_or_fault, big_index, value_of_index, bad_step, tested_step, step_of}
 use Rattle.kernel_ast.specs.Walk.{all_at}
 use Rattle.kernel_ast.specs.Machine.{Run, Elements, State, Execution, unset, output_unset, read_option, chain, arguments, expr_step, link_step, evaluate, assign, one_pass, stmt_step, execute, execute_all, enter, held, leave, cells_of, no_elements, run_all, put, is_cell}
-use Rattle.kernel_ast.specs.Meaning.{Held, Entry, entry, numbered, numbered_input, with_number, too_many_vertices, append_entry, constants, add_constant, value_at, fold_or_append, set_output}
+use Rattle.kernel_ast.specs.Meaning.{Held, Entry, entry, numbered, numbered_input, with_number, too_many_vertices, append_entry, constants, add_constant, fold_or_append, set_output}
 use Rattle.kernel_ast.specs.KernelGraph.{padded, node_of}
 use Rattle.kernel_ast.specs.WellFormed.{is_number, are_operators, is_function, all, expr_fits_step, expr_fits, stmt_fits_step, stmt_fits, body_fits, target_fits, index_fits, step_fits, IsWellFormed}
 use Rattle.kernel_ast.specs.WellFormed as well

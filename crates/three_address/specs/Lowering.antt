@@ -6,9 +6,10 @@ use Rattle.comp_graph.specs.declared.operation.Op.TheVariants as op
 use Rattle.comp_graph.specs.declared.node.Operand.{Operand}
 use Rattle.comp_graph.specs.declared.node.Operand.TheVariants.{Vertex, Const}
 use Rattle.comp_graph.specs.declared.node.Node.{Node}
+use Rattle.comp_graph.specs.Operations.{value_at}
 use Rattle.kernel_ast.specs.RunRules.{most_vertices}
 use Rattle.kernel_ast.specs.Machine.{Machine, Run}
-use Rattle.kernel_ast.specs.Meaning.{value_at, too_many_vertices}
+use Rattle.kernel_ast.specs.Meaning.{too_many_vertices}
 
 -- the operand at a place, and the constant 0 where there is none
 abbrev pub operand_at : List Operand → ℕ → Operand

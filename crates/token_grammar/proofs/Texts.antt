@@ -5,7 +5,7 @@ use Rattle.token_grammar.specs.declared.fault.GrammarFault.{GrammarFault}
 use Rattle.token_grammar.specs.declared.fault.GrammarFault.TheVariants.{Syntax, TooDeep}
 use Rattle.token_grammar.specs.Phrases.{Phrase}
 use Rattle.token_grammar.specs.Readers.{Read, Got, Bad, Reader, first, ended}
-use Rattle.token_grammar.specs.Faults.{BeginsWord, IsFaultAt, IsFaultOf}
+use Rattle.token_grammar.specs.Faults.{IsFrontOfWord, IsFaultAt, IsGrammarFault}
 use Rattle.token_grammar.proofs.Parts.{Stopping}
 use Rattle.token_grammar.proofs.Steps.{any, Step, Levels}
 
@@ -40,13 +40,13 @@ level_same TooDeep d = refl
 -- ---- the definitions alone
 
 module _ {T A : Type 0} (R : ℕ → Phrase T A) where
-  begins_front : (d : ℕ) (seen more : List T) → BeginsWord R d (seen ++ more) → BeginsWord R d seen
+  begins_front : (d : ℕ) (seen more : List T) → IsFrontOfWord R d (seen ++ more) → IsFrontOfWord R d seen
   begins_front d seen more b = (more ++ b.0, b.1, subst (λ z. R d z b.1) (append_assoc seen more b.0) b.2)
 
   -- what begins a word within the limit goes past no fault
-  not_past : {X : Type 0} (d : ℕ) (c : GrammarFault) (seen : List T) (t : T) (rest more : List T) → IsFaultAt R d c seen (t ∷ rest) → BeginsWord R d (seen ++ t ∷ more) → X
-  not_past d Syntax seen t rest more f b = absurd (f d (begins_front d (seen ++ t ∷ []) more (subst (BeginsWord R d) (sym (append_assoc seen (t ∷ []) more)) b)))
-  not_past d TooDeep seen t rest more f b = absurd (f.1 (begins_front d (seen ++ t ∷ []) more (subst (BeginsWord R d) (sym (append_assoc seen (t ∷ []) more)) b)))
+  not_past : {X : Type 0} (d : ℕ) (c : GrammarFault) (seen : List T) (t : T) (rest more : List T) → IsFaultAt R d c seen (t ∷ rest) → IsFrontOfWord R d (seen ++ t ∷ more) → X
+  not_past d Syntax seen t rest more f b = absurd (f d (begins_front d (seen ++ t ∷ []) more (subst (IsFrontOfWord R d) (sym (append_assoc seen (t ∷ []) more)) b)))
+  not_past d TooDeep seen t rest more f b = absurd (f.1 (begins_front d (seen ++ t ∷ []) more (subst (IsFrontOfWord R d) (sym (append_assoc seen (t ∷ []) more)) b)))
 
   same_code : (d : ℕ) (c e : GrammarFault) (seen rest : List T) → IsFaultAt R d c seen rest → IsFaultAt R d e seen rest → c ≡ e
   same_code d Syntax Syntax seen rest f g = refl
@@ -56,12 +56,12 @@ module _ {T A : Type 0} (R : ℕ → Phrase T A) where
   same_code d Syntax TooDeep seen (t ∷ rest) f g = absurd (f g.0.0 g.0.1)
   same_code d TooDeep Syntax seen (t ∷ rest) f g = absurd (g f.0.0 f.0.1)
 
-  front_first : (d : ℕ) (c e : GrammarFault) (x y r s : List T) → IsFaultAt R d c x r → IsFaultAt R d e y s → BeginsWord R d y → (m : List T) → y ≡ x ++ m → r ≡ m ++ s → (c ≡ e) × (r ≡ s)
+  front_first : (d : ℕ) (c e : GrammarFault) (x y r s : List T) → IsFaultAt R d c x r → IsFaultAt R d e y s → IsFrontOfWord R d y → (m : List T) → y ≡ x ++ m → r ≡ m ++ s → (c ≡ e) × (r ≡ s)
   front_first d c e x y r s f g b [] p q =
       let here : x ≡ y = sym (p ∙ append-nil x) in
       (same_code d c e y s (subst (λ z. IsFaultAt R d c y z) q (subst (λ z. IsFaultAt R d c z r) here f)) g, q)
   front_first d c e x y r s f g b (t ∷ m) p q =
-      not_past d c x t (m ++ s) m (subst (IsFaultAt R d c x) q f) (subst (BeginsWord R d) p b)
+      not_past d c x t (m ++ s) m (subst (IsFaultAt R d c x) q f) (subst (IsFrontOfWord R d) p b)
 
 both_tokens : {T : Type 0} (t u : T) (r s : List T) → t ∷ r ≡ u ∷ s → (t ≡ u) × (r ≡ s)
 both_tokens t u r s e = (cc, cc)
@@ -77,7 +77,7 @@ two_fronts (a ∷ x) (b ∷ y) r s e =
     (two_fronts x y r s h.1)
 
 -- A text has at most one first fault.
-pub one_fault : {T A : Type 0} (R : ℕ → Phrase T A) (d : ℕ) (c e : GrammarFault) (ts r s : List T) → IsFaultOf R d c ts r → IsFaultOf R d e ts s → (c ≡ e) × (r ≡ s)
+pub one_fault : {T A : Type 0} (R : ℕ → Phrase T A) (d : ℕ) (c e : GrammarFault) (ts r s : List T) → IsGrammarFault R d c ts r → IsGrammarFault R d e ts s → (c ≡ e) × (r ≡ s)
 one_fault R d c e ts r s f g =
     ⊎_elim (λ m. front_first R d c e f.seen g.seen r s f.here g.here g.before m.0 m.1 m.2)
     (λ m. let h = front_first R d e c g.seen f.seen s r g.here f.here f.before m.0 m.1 m.2 in (sym h.0, sym h.1))
@@ -90,7 +90,7 @@ fault_or_word R d TooDeep seen [] a f r = f
 fault_or_word R d Syntax seen (t ∷ rest) a f r = f d (rest, a, subst (λ z. R d z a) (sym (append_assoc seen (t ∷ []) rest)) r)
 fault_or_word R d TooDeep seen (t ∷ rest) a f r = f.1 (rest, a, subst (λ z. R d z a) (sym (append_assoc seen (t ∷ []) rest)) r)
 
-pub never_both : {T A : Type 0} (R : ℕ → Phrase T A) (d : ℕ) (ts : List T) (a : A) (c : GrammarFault) (rest : List T) → R d ts a → IsFaultOf R d c ts rest → ⊥
+pub never_both : {T A : Type 0} (R : ℕ → Phrase T A) (d : ℕ) (ts : List T) (a : A) (c : GrammarFault) (rest : List T) → R d ts a → IsGrammarFault R d c ts rest → ⊥
 never_both R d ts a c rest r f = fault_or_word R d c f.seen rest a f.here (subst (λ z. R d z a) f.split r)
 
 -- ---- a reader whose steps are known
@@ -141,11 +141,11 @@ module _ {T A : Type 0} (p : ℕ → Reader T A) (R : ℕ → Phrase T A) (step 
       let again : ended (p m (seen ++ rest')) ≡ Bad c rest' = ap (λ z. ended (p m (z ++ rest'))) (sym here) ∙ s.again rest' same in
       not_two (ended (p m (seen ++ rest'))) a c [] rest' (read m (seen ++ rest') a (more_levels levels m (seen ++ rest') a k r)) again
 
-  no_word_begins : (c : GrammarFault) (d m levels : ℕ) → Levels c d m → levels ≤ m → (ts : List T) (t : T) (rest seen : List T) → ended (p d ts) ≡ Bad c (t ∷ rest) → ts ≡ seen ++ t ∷ rest → BeginsWord R levels (seen ++ t ∷ []) → ⊥
+  no_word_begins : (c : GrammarFault) (d m levels : ℕ) → Levels c d m → levels ≤ m → (ts : List T) (t : T) (rest seen : List T) → ended (p d ts) ≡ Bad c (t ∷ rest) → ts ≡ seen ++ t ∷ rest → IsFrontOfWord R levels (seen ++ t ∷ []) → ⊥
   no_word_begins c d m levels l k ts t rest seen e w b =
       no_word c d m levels l k ts (t ∷ rest) seen e w (t ∷ b.0) b.1 refl (subst (λ z. R levels z b.1) (append_assoc seen (t ∷ []) b.0) b.2)
 
-  goes_deeper : (d : ℕ) (ts : List T) (t : T) (rest seen : List T) → ended (p d ts) ≡ Bad TooDeep (t ∷ rest) → ts ≡ seen ++ t ∷ rest → (levels : ℕ) × BeginsWord R levels (seen ++ t ∷ [])
+  goes_deeper : (d : ℕ) (ts : List T) (t : T) (rest seen : List T) → ended (p d ts) ≡ Bad TooDeep (t ∷ rest) → ts ≡ seen ++ t ∷ rest → (levels : ℕ) × IsFrontOfWord R levels (seen ++ t ∷ [])
   goes_deeper d ts t rest seen e w =
       let s = stopped TooDeep d d refl ts (t ∷ rest) e in
       let x = s.deeper refl in
@@ -164,12 +164,12 @@ module _ {T A : Type 0} (p : ℕ → Reader T A) (R : ℕ → Phrase T A) (step 
   fault_at d TooDeep ts (t ∷ rest) seen e w = (goes_deeper d ts t rest seen e w, λ b. no_word_begins TooDeep d d d refl (omega arith) ts t rest seen e w b)
 
   -- Where the reader stops is the first fault.
-  pub exact_fault : (d : ℕ) (c : GrammarFault) (ts rest : List T) → ended (p d ts) ≡ Bad c rest → IsFaultOf R d c ts rest
+  pub exact_fault : (d : ℕ) (c : GrammarFault) (ts rest : List T) → ended (p d ts) ≡ Bad c rest → IsGrammarFault R d c ts rest
   exact_fault d c ts rest e =
       let s = stopped c d d (level_same c d) ts rest e in
       record { seen = s.seen; split = s.split; before = (s.more, s.value, s.alive); here = fault_at d c ts rest s.seen e s.split }
 
   -- Each text has a value or a fault.
-  pub word_or_fault : (d : ℕ) (ts : List T) → ((a : A) × R d ts a) ⊎ ((c : GrammarFault) × (rest : List T) × IsFaultOf R d c ts rest)
+  pub word_or_fault : (d : ℕ) (ts : List T) → ((a : A) × R d ts a) ⊎ ((c : GrammarFault) × (rest : List T) × IsGrammarFault R d c ts rest)
   word_or_fault d ts =
       ⊎_elim (λ x. inl (x.0, reads d ts x.0 x.1 x.2)) (λ x. inr (x.0, x.1, exact_fault d x.0 ts x.1 x.2)) (got_or_bad (ended (p d ts)))

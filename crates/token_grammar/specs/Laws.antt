@@ -2,7 +2,7 @@
 use Rattle.std.specs.Prelude.{◌≡◌, ℕ, ◌⊎◌, List}
 use Rattle.token_grammar.specs.declared.fault.GrammarFault.{GrammarFault}
 use Rattle.token_grammar.specs.Readers.{Got, Bad, ended}
-use Rattle.token_grammar.specs.Faults.{IsFaultOf}
+use Rattle.token_grammar.specs.Faults.{IsGrammarFault}
 use Rattle.token_grammar.specs.Nested.{Part, part}
 
 -- A word has at most one value, whatever the levels.
@@ -11,15 +11,15 @@ OneReading = (d e : ℕ) (word : List ℕ) (a b : ℕ) → Part d word a → Par
 
 -- A text has at most one first fault.
 abbrev pub OneFault : Type 0
-OneFault = (limit : ℕ) (f g : GrammarFault) (text r s : List ℕ) → IsFaultOf Part limit f text r → IsFaultOf Part limit g text s → (f ≡ g) × (r ≡ s)
+OneFault = (limit : ℕ) (f g : GrammarFault) (text r s : List ℕ) → IsGrammarFault Part limit f text r → IsGrammarFault Part limit g text s → (f ≡ g) × (r ≡ s)
 
 -- No text within the limit has a fault.
 abbrev pub NeverBoth : Type 0
-NeverBoth = (limit : ℕ) (text : List ℕ) (a : ℕ) (f : GrammarFault) (rest : List ℕ) → Part limit text a → IsFaultOf Part limit f text rest → ⊥
+NeverBoth = (limit : ℕ) (text : List ℕ) (a : ℕ) (f : GrammarFault) (rest : List ℕ) → Part limit text a → IsGrammarFault Part limit f text rest → ⊥
 
 -- Each text has a value or a fault.
 abbrev pub ReadingOrFault : Type 0
-ReadingOrFault = (limit : ℕ) (text : List ℕ) → ((a : ℕ) × Part limit text a) ⊎ ((f : GrammarFault) × (rest : List ℕ) × IsFaultOf Part limit f text rest)
+ReadingOrFault = (limit : ℕ) (text : List ℕ) → ((a : ℕ) × Part limit text a) ⊎ ((f : GrammarFault) × (rest : List ℕ) × IsGrammarFault Part limit f text rest)
 
 -- What the reader gets is a value.
 abbrev pub ReadsValue : Type 0
@@ -27,4 +27,4 @@ ReadsValue = (limit : ℕ) (text : List ℕ) (a : ℕ) (rest : List ℕ) → end
 
 -- Where the reader stops is the first fault.
 abbrev pub StopsAtFault : Type 0
-StopsAtFault = (limit : ℕ) (text : List ℕ) (f : GrammarFault) (rest : List ℕ) → ended (part limit text) ≡ Bad f rest → IsFaultOf Part limit f text rest
+StopsAtFault = (limit : ℕ) (text : List ℕ) (f : GrammarFault) (rest : List ℕ) → ended (part limit text) ≡ Bad f rest → IsGrammarFault Part limit f text rest

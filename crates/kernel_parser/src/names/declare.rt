@@ -1,7 +1,7 @@
 //! Makes the table of the declarations.
 ghost use Rattle.std.specs.Prelude.{◌≡◌, ◌++◌, ◌∷◌, [], map, OnOk, IfOk, IfErr};
 ghost use Rattle.kernel_parser.specs.Names as spec;
-ghost use Rattle.kernel_parser.specs.Names.{known_in, meaning};
+ghost use Rattle.kernel_parser.specs.Names.{known_in, name_meaning};
 ghost use Rattle.kernel_parser.specs.Scopes.{EndsAt};
 
 use crate::names::fault::NameRule;
@@ -34,9 +34,9 @@ fn declare(
     decls: &mut IndexMap<Name, Decl>,
     raw: &RawDecl,
 ) -> Result<(), ParseEnd>
-    ensures faultless { OnOk result (spec.twice_faults (meaning (known_in text.now decls.old.entries []) raw.now.name) raw.now.name.from ++ spec.sizes_faults raw.now.sizes ≡ []) }
+    ensures faultless { OnOk result (spec.twice_faults (name_meaning (known_in text.now decls.old.entries []) raw.now.name) raw.now.name.from ++ spec.sizes_faults raw.now.sizes ≡ []) }
     ensures declared { OnOk result (decls.new.entries ≡ decls.old.entries ++ spec.declared text.now raw.now ∷ []) }
-    ensures fault { IfErr result (EndsAt (spec.twice_faults (meaning (known_in text.now decls.old.entries []) raw.now.name) raw.now.name.from ++ spec.sizes_faults raw.now.sizes)) }
+    ensures fault { IfErr result (EndsAt (spec.twice_faults (name_meaning (known_in text.now decls.old.entries []) raw.now.name) raw.now.name.from ++ spec.sizes_faults raw.now.sizes)) }
 {
     let name = name_of(alloc, text, raw.name)?;
     let at = raw.name.from;

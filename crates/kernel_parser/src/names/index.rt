@@ -6,7 +6,7 @@ ghost use Rattle.kernel_parser.specs.Resolved as tree;
 ghost use Rattle.kernel_parser.specs.Scopes.{known, EndsAt};
 
 use crate::names::fault::NameRule;
-use crate::names::scope::{Meaning, Scope};
+use crate::names::scope::{NameMeaning, Scope};
 use crate::parse_end::ParseEnd;
 use kernel_ast::{Index, IndexLink, IndexTree};
 use kernel_syntax::raw::{RawIndex, RawIndexLink, RawIndexTree, Span};
@@ -14,12 +14,12 @@ use sqlite_items::{Boxed, Items};
 
 impl<'a> Scope<'a> {
     fn index_name(&self, span: Span) -> Result<IndexTree, ParseEnd>
-        ensures faultless { OnOk result (spec.index_name_faults (spec.meaning (known self.now) span) span.from ≡ []) }
-        ensures tree { IfOk result (λ t. t ≡ tree.turn_of (spec.meaning (known self.now) span)) }
-        ensures fault { IfErr result (EndsAt (spec.index_name_faults (spec.meaning (known self.now) span) span.from)) }
+        ensures faultless { OnOk result (spec.index_name_faults (spec.name_meaning (known self.now) span) span.from ≡ []) }
+        ensures tree { IfOk result (λ t. t ≡ tree.turn_of (spec.name_meaning (known self.now) span)) }
+        ensures fault { IfErr result (EndsAt (spec.index_name_faults (spec.name_meaning (known self.now) span) span.from)) }
     {
-        match self.meaning(span)? {
-            Meaning::Turn(open) => Ok(IndexTree::Turn(open)),
+        match self.name_meaning(span)? {
+            NameMeaning::Turn(open) => Ok(IndexTree::Turn(open)),
             _ => Err(NameRule::Unknown.at(span.from)),
         }
     }

@@ -4,7 +4,7 @@ ghost use Rattle.kernel_ast.specs.WellFormed.{has_sizes, is_writable};
 ghost use Rattle.kernel_parser.specs.Names as spec;
 ghost use Rattle.kernel_parser.specs.Scopes.{known};
 
-use crate::names::scope::{Meaning, Scope};
+use crate::names::scope::{NameMeaning, Scope};
 use indexmap::IndexMap;
 use kernel_ast::{Decl, DeclKind, Name};
 use kernel_syntax::raw::Span;
@@ -43,16 +43,16 @@ fn declared_at(decls: &IndexMap<Name, Decl>, name: &Name) -> Option<usize>
 
 impl<'a> Scope<'a> {
     /// What the name stands for.
-    pub fn meaning(&self, span: Span) -> Result<Meaning, AllocError>
-        ensures { IfOk result (λ meaning. meaning ≡ spec.meaning (known self.now) span) }
+    pub fn name_meaning(&self, span: Span) -> Result<NameMeaning, AllocError>
+        ensures { IfOk result (λ found. found ≡ spec.name_meaning (known self.now) span) }
     {
         let name = name_of(self.table.alloc, self.table.text, span)?;
         if let Some(open) = open_at(self.loops, &name) {
-            return Ok(Meaning::Turn(open as u8));
+            return Ok(NameMeaning::Turn(open as u8));
         }
         Ok(match declared_at(self.table.decls, &name) {
-            Some(number) => Meaning::Element(number as u16),
-            None => Meaning::Unknown,
+            Some(number) => NameMeaning::Element(number as u16),
+            None => NameMeaning::Unknown,
         })
     }
 

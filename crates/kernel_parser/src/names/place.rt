@@ -5,7 +5,7 @@ ghost use Rattle.kernel_parser.specs.Resolved as tree;
 ghost use Rattle.kernel_parser.specs.Scopes.{known, EndsAt};
 
 use crate::names::fault::NameRule;
-use crate::names::scope::{Meaning, Scope};
+use crate::names::scope::{NameMeaning, Scope};
 use crate::parse_end::ParseEnd;
 use kernel_ast::{Expr, Place};
 use kernel_syntax::raw::RawPlace;
@@ -18,22 +18,22 @@ impl<'a> Scope<'a> {
         ensures fault { IfErr result (EndsAt (spec.place_faults (known self.now) raw.now)) }
     {
         let at = raw.name.from;
-        match self.meaning(raw.name)? {
-            Meaning::Turn(open) => {
+        match self.name_meaning(raw.name)? {
+            NameMeaning::Turn(open) => {
                 if raw.indices.is_empty() {
                     Ok(Expr::Turn(open))
                 } else {
                     Err(NameRule::Indices.at(at))
                 }
             }
-            Meaning::Element(decl) => {
+            NameMeaning::Element(decl) => {
                 if !self.has_sizes(decl, raw.indices.len()) {
                     return Err(NameRule::Indices.at(at));
                 }
                 let indices = self.indices(raw.indices.as_slice())?;
                 Ok(Expr::Cell(Place { decl, indices, at }))
             }
-            Meaning::Unknown => Err(NameRule::Unknown.at(at)),
+            NameMeaning::Unknown => Err(NameRule::Unknown.at(at)),
         }
     }
 
@@ -44,9 +44,9 @@ impl<'a> Scope<'a> {
         ensures fault { IfErr result (EndsAt (spec.target_place_faults (known self.now) raw.now)) }
     {
         let at = raw.name.from;
-        match self.meaning(raw.name)? {
-            Meaning::Turn(_) => Err(NameRule::NotWritable.at(at)),
-            Meaning::Element(decl) => {
+        match self.name_meaning(raw.name)? {
+            NameMeaning::Turn(_) => Err(NameRule::NotWritable.at(at)),
+            NameMeaning::Element(decl) => {
                 if !self.is_writable(decl) {
                     return Err(NameRule::NotWritable.at(at));
                 }
@@ -56,7 +56,7 @@ impl<'a> Scope<'a> {
                 let indices = self.indices(raw.indices.as_slice())?;
                 Ok(Place { decl, indices, at })
             }
-            Meaning::Unknown => Err(NameRule::Unknown.at(at)),
+            NameMeaning::Unknown => Err(NameRule::Unknown.at(at)),
         }
     }
 }

@@ -7,7 +7,7 @@ use std::alloc::Global;
 
 /// What a name stands for where it is written.
 #[derive(Clone, Copy)]
-pub enum Meaning {
+pub enum NameMeaning {
     /// The index of an open loop, counted from outside.
     Turn(u8),
     /// A declaration, by its number.

@@ -8,7 +8,7 @@ ghost use Rattle.kernel_parser.specs.Scopes.{known, known_under, entries, EndsAt
 
 use crate::names::fault::NameRule;
 use crate::names::lookup::name_of;
-use crate::names::scope::{Meaning, Scope, Table};
+use crate::names::scope::{NameMeaning, Scope, Table};
 use crate::parse_end::ParseEnd;
 use kernel_ast::{Index, Name, Stmt};
 use kernel_syntax::raw::{RawBranch, RawExpr, RawIndex, RawLoop, RawPlace, RawStmt, Span};
@@ -47,8 +47,8 @@ impl<'a> Table<'a> {
         ensures fault { IfErr result (EndsAt (spec.header_faults (known_under self.now loops.now) header.now)) }
     {
         let scope = Scope { table: self, loops };
-        match scope.meaning(header.name)? {
-            Meaning::Unknown => {
+        match scope.name_meaning(header.name)? {
+            NameMeaning::Unknown => {
                 let from = scope.index(&header.from)?;
                 let to = scope.index(&header.to)?;
                 let by = scope.step(&header.by)?;

@@ -2,7 +2,7 @@
 use Rattle.std.proofs.Common.{rules, ◌++◌, ◌∷◌, [], map, ap, subst, ◌∙◌}
 use Rattle.std.specs.Str.{bytes_eq}
 use Rattle.kernel_parser.specs.Names as spec
-use Rattle.kernel_parser.specs.Names.{known_in, meaning}
+use Rattle.kernel_parser.specs.Names.{known_in, name_meaning}
 use Rattle.kernel_parser.specs.Scopes.{EndsAt}
 use Rattle.kernel_parser.proofs.Faults.{ends_later, twice_new, none_of}
 use Rattle.indexmap.proofs.CallerLemmas.{insert_entry-new}
@@ -15,8 +15,8 @@ returns-in_err-sizes-clause-fault c =
     let fresh = twice_new c.get_index_of-known.result (spec.declared_at entries c.in_ok-name.name) c.args.raw.now.name.from c.get_index_of-known.ensures.index (search rules) in
     let here : EndsAt (spec.sizes_faults c.args.raw.now.sizes) e = subst (λ s. EndsAt (spec.sizes_faults s) e) c.as_slice.ensures c.in_err-sizes.ensures.fault in
     let all = ends_later _ _ e fresh here in
-    let whole : EndsAt (spec.twice_faults (meaning (known_in c.args.text.now entries []) c.args.raw.now.name) c.args.raw.now.name.from ++ spec.sizes_faults c.args.raw.now.sizes) e
-    = subst (λ n. EndsAt (spec.twice_faults (spec.meaning_by (spec.open_at [] n) (spec.declared_at entries n)) c.args.raw.now.name.from ++ spec.sizes_faults c.args.raw.now.sizes) e) c.in_ok-name.ensures all in
+    let whole : EndsAt (spec.twice_faults (name_meaning (known_in c.args.text.now entries []) c.args.raw.now.name) c.args.raw.now.name.from ++ spec.sizes_faults c.args.raw.now.sizes) e
+    = subst (λ n. EndsAt (spec.twice_faults (spec.name_meaning_by (spec.open_at [] n) (spec.declared_at entries n)) c.args.raw.now.name.from ++ spec.sizes_faults c.args.raw.now.sizes) e) c.in_ok-name.ensures all in
     search rules
 
 pub returns-clause-declared : goal.returns-clause-declared

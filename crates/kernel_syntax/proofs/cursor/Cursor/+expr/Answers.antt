@@ -6,7 +6,7 @@ use Rattle.kernel_syntax.specs.Parsing as spec
 use Rattle.kernel_syntax.specs.Reading.{Follows, tokens_of}
 use Rattle.token_grammar.specs.Readers.{sees, with_front}
 use Rattle.token_grammar.proofs.Loops.{many_turn}
-use Rattle.kernel_syntax.proofs.Turns.{link_shrinks, ranked_chained, unary_leaf, unary_opened}
+use Rattle.kernel_syntax.proofs.Turns.{link_shrinks, ranked_chained, unary_leaf, unary_opened, opened_pair, opened_triple}
 use Rattle.kernel_syntax.proofs.cursor.Cursor.+expr.Goals as goal
 
 pub links-links-smaller : goal.links-links-smaller
@@ -32,3 +32,13 @@ pub unary-returns-else-levels-eq0 : goal.unary-returns-else-levels-eq0
 unary-returns-else-levels-eq0 t c =
     let e = unary_opened c.args.levels (tokens_of c.args.self.now) (omega arith) (sym c.sees.ensures ∙ c.if-not-sees.false) in
     subst (λ r. Follows r c.opened.result (tokens_of c.opened.new.self)) (sym e) c.opened.ensures
+
+pub opened-returns-then-sees-3 : goal.opened-returns-then-sees-3
+opened-returns-then-sees-3 t c =
+    let e = opened_pair c.args.levels (tokens_of c.args.self.now) (sym c.sees.ensures ∙ c.if-sees.false) (sym c.sees-else-sees.ensures ∙ c.if-sees-2.false) (sym c.sees-else-sees-2.ensures ∙ c.if-sees-3.true) in
+    subst (λ r. Follows r c.pair.result (tokens_of c.pair.new.self)) (sym e) c.pair.ensures
+
+pub opened-returns-else-sees-3 : goal.opened-returns-else-sees-3
+opened-returns-else-sees-3 t c =
+    let e = opened_triple c.args.levels (tokens_of c.args.self.now) (sym c.sees.ensures ∙ c.if-sees.false) (sym c.sees-else-sees.ensures ∙ c.if-sees-2.false) (sym c.sees-else-sees-2.ensures ∙ c.if-sees-3.false) in
+    subst (λ r. Follows r c.triple.result (tokens_of c.triple.new.self)) (sym e) c.triple.ensures

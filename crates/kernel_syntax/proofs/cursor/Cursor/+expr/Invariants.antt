@@ -10,7 +10,7 @@ abbrev pub decreases-unary : goal.decreases-unary
 decreases-unary l = 32 * l.levels
 
 abbrev pub decreases-opened : goal.decreases-opened
-decreases-opened l = 32 * l.levels + 26
+decreases-opened l = 32 * l.levels + 27
 
 abbrev pub decreases-ranked : goal.decreases-ranked
 decreases-ranked l = 32 * l.levels + 4 * l.rank + 3
@@ -36,7 +36,13 @@ abbrev pub decreases-group : goal.decreases-group
 decreases-group l = 32 * l.levels + 25
 
 abbrev pub decreases-pair : goal.decreases-pair
-decreases-pair l = 32 * l.levels + 25
+decreases-pair l = 32 * l.levels + 26
 
 abbrev pub decreases-triple : goal.decreases-triple
-decreases-triple l = 32 * l.levels + 25
+decreases-triple l = 32 * l.levels + 26
+
+abbrev pub decreases-argument : goal.decreases-argument
+decreases-argument l = 32 * l.levels + 24
+
+abbrev pub decreases-last_argument : goal.decreases-last_argument
+decreases-last_argument l = 32 * l.levels + 25

@@ -1,5 +1,5 @@
 -- The next number is taken, or the end is reached.
-use Rattle.std.proofs.Common.{rules, arith, ◌≡◌, ◌∷◌, ℤ, pos, ◌+ℤ◌, ◌<ℤ◌, ◌≤ℤ◌, SFits, to_z, of_z, w64, sym, ◌∙◌}
+use Rattle.std.proofs.Common.{rules, arith, ◌≡◌, ◌∷◌, ◌+ℤ◌, ◌<ℤ◌, ◌≤ℤ◌, SFits, to_z, of_z, w64, sym, ◌∙◌}
 use Rattle.std.proofs.lemmas.Int.{ints}
 use Rattle.std.specs.Int.{saturate_signed}
 use Rattle.kernel_ast.specs.Steps.{numbers}

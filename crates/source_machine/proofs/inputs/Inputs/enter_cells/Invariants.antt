@@ -1,7 +1,7 @@
 -- The input elements of a declaration so far, with those that are left.
 use Rattle.std.proofs.Common.{◌≡◌}
 use Rattle.kernel_ast.specs.Steps.{each}
-use Rattle.kernel_ast.specs.Machine as meaning
+use Rattle.kernel_ast.specs.Machine as machine
 use Rattle.kernel_walk.specs.ElementLoops.{cells_between}
 use Rattle.source_machine.specs.Numbers as spec
 use Rattle.source_machine.specs.States.{entered}
@@ -9,5 +9,5 @@ use Rattle.source_machine.proofs.inputs.Inputs.enter_cells.Given as goal
 
 abbrev pub invariant-each_cell : goal.invariant-each_cell
 invariant-each_cell l =
-    each (meaning.enter (spec.input l.values)) (cells_between l.at l.decl l.offset l.size) (entered l.self)
-    ≡ each (meaning.enter (spec.input l.values)) (cells_between l.at l.decl 0 l.size) (entered l.fn.self)
+    each (machine.enter (spec.input l.values)) (cells_between l.at l.decl l.offset l.size) (entered l.self)
+    ≡ each (machine.enter (spec.input l.values)) (cells_between l.at l.decl 0 l.size) (entered l.fn.self)

@@ -1,7 +1,7 @@
 -- The fault of one declaration is that of all, and one more is done.
 use Rattle.std.proofs.Common.{rules, arith, ◌≡◌, ◌<◌, length, sym, ap, subst, ◌∙◌, Err}
 use Rattle.kernel_ast.specs.declared.tree.DeclKind.TheVariants as kinds
-use Rattle.kernel_ast.specs.Machine as meaning
+use Rattle.kernel_ast.specs.Machine as machine
 use Rattle.kernel_walk.specs.ElementLoops.{each_from}
 use Rattle.kernel_walk.specs.Outcomes.{Gives}
 use Rattle.kernel_walk.specs.SetElements.{elements}
@@ -16,12 +16,12 @@ returns-in_err-leave_declaration c =
     let count : c.len-decl-end.result ≡ length c.args.kernel.now.decls = c.len-decl-end.ensures.len ∙ ap length c.decls.ensures.value in
     let below : c.each_declaration.decl < length c.args.kernel.now.decls = omega arith in
     let err : c.from_residual.result ≡ Err c.in_err-leave_declaration.field-0.0 = search rules in
-    subst (λ r. Gives (each_from (meaning.leave spec.numbers (elements c.args.written.now)) kinds.Output 0 c.args.kernel.now.decls (left c.args.self.now)) (left c.leave_declaration.new.self) r) (sym err)
+    subst (λ r. Gives (each_from (machine.leave spec.numbers (elements c.args.written.now)) kinds.Output 0 c.args.kernel.now.decls (left c.args.self.now)) (left c.leave_declaration.new.self) r) (sym err)
     (stops _ _ (left c.leave_declaration.new.self) c.in_err-leave_declaration.field-0.0
-    (λ f is. decls_stopped (meaning.leave spec.numbers (elements c.args.written.now)) kinds.Output c.args.kernel.now.decls c.each_declaration.decl _ f _ below c.each_declaration.invariant is) c.in_err-leave_declaration.ensures)
+    (λ f is. decls_stopped (machine.leave spec.numbers (elements c.args.written.now)) kinds.Output c.args.kernel.now.decls c.each_declaration.decl _ f _ below c.each_declaration.invariant is) c.in_err-leave_declaration.ensures)
 
 pub each_declaration-preserved : goal.each_declaration-preserved
 each_declaration-preserved c =
     let count : c.len-decl-end.result ≡ length c.args.kernel.now.decls = c.len-decl-end.ensures.len ∙ ap length c.decls.ensures.value in
     let below : c.each_declaration.decl < length c.args.kernel.now.decls = omega arith in
-    decls_kept (meaning.leave spec.numbers (elements c.args.written.now)) kinds.Output c.args.kernel.now.decls c.each_declaration.decl _ _ _ below c.each_declaration.invariant c.in_ok-leave_declaration.ensures
+    decls_kept (machine.leave spec.numbers (elements c.args.written.now)) kinds.Output c.args.kernel.now.decls c.each_declaration.decl _ _ _ below c.each_declaration.invariant c.in_ok-leave_declaration.ensures

@@ -1,7 +1,7 @@
 -- The fault of one element is that of all, one more is done, and in the end all are.
 use Rattle.std.proofs.Common.{rules, arith, ◌≡◌, ◌<◌, ◌≤◌, ◌+◌, refl, sym, subst, Err}
 use Rattle.kernel_ast.specs.Steps.{each}
-use Rattle.kernel_ast.specs.Machine as meaning
+use Rattle.kernel_ast.specs.Machine as machine
 use Rattle.kernel_walk.specs.ElementLoops.{cells_between}
 use Rattle.kernel_walk.specs.Outcomes.{Gives}
 use Rattle.kernel_walk.specs.SetElements.{elements}
@@ -15,16 +15,16 @@ pub returns-in_err-leave : goal.returns-in_err-leave
 returns-in_err-leave c =
     let below : c.each_cell.offset < c.args.size = omega arith in
     let err : c.from_residual.result ≡ Err c.in_err-leave.field-0.0 = search rules in
-    subst (λ r. Gives (each (meaning.leave spec.numbers (elements c.args.written.now)) (cells_between c.args.at c.args.decl 0 c.args.size) (left c.args.self.now)) (left c.leave.new.self) r) (sym err)
+    subst (λ r. Gives (each (machine.leave spec.numbers (elements c.args.written.now)) (cells_between c.args.at c.args.decl 0 c.args.size) (left c.args.self.now)) (left c.leave.new.self) r) (sym err)
     (stops _ _ (left c.leave.new.self) c.in_err-leave.field-0.0
-    (λ f is. cells_stopped (meaning.leave spec.numbers (elements c.args.written.now)) c.args.at c.args.decl c.each_cell.offset c.args.size _ f _ below c.each_cell.invariant is) c.in_err-leave.ensures)
+    (λ f is. cells_stopped (machine.leave spec.numbers (elements c.args.written.now)) c.args.at c.args.decl c.each_cell.offset c.args.size _ f _ below c.each_cell.invariant is) c.in_err-leave.ensures)
 
 pub each_cell-preserved : goal.each_cell-preserved
 each_cell-preserved c =
     let below : c.each_cell.offset < c.args.size = omega arith in
-    cells_kept (meaning.leave spec.numbers (elements c.args.written.now)) c.args.at c.args.decl c.each_cell.offset (c.each_cell.offset + 1) c.args.size _ _ _ below refl c.each_cell.invariant c.in_ok-leave.ensures
+    cells_kept (machine.leave spec.numbers (elements c.args.written.now)) c.args.at c.args.decl c.each_cell.offset (c.each_cell.offset + 1) c.args.size _ _ _ below refl c.each_cell.invariant c.in_ok-leave.ensures
 
 pub returns : goal.returns
 returns c =
     let above : c.args.size ≤ c.each_cell.offset = omega arith in
-    cells_ended (meaning.leave spec.numbers (elements c.args.written.now)) c.args.at c.args.decl c.each_cell.offset c.args.size _ _ above c.each_cell.invariant
+    cells_ended (machine.leave spec.numbers (elements c.args.written.now)) c.args.at c.args.decl c.each_cell.offset c.args.size _ _ above c.each_cell.invariant

@@ -1,7 +1,7 @@
 -- The output elements of a declaration so far, with those that are left.
 use Rattle.std.proofs.Common.{◌≡◌}
 use Rattle.kernel_ast.specs.Steps.{each}
-use Rattle.kernel_ast.specs.Machine as meaning
+use Rattle.kernel_ast.specs.Machine as machine
 use Rattle.kernel_walk.specs.ElementLoops.{cells_between}
 use Rattle.kernel_walk.specs.SetElements.{elements}
 use Rattle.source_machine.specs.Numbers as spec
@@ -10,5 +10,5 @@ use Rattle.source_machine.proofs.outputs.Outputs.leave_cells.Given as goal
 
 abbrev pub invariant-each_cell : goal.invariant-each_cell
 invariant-each_cell l =
-    each (meaning.leave spec.numbers (elements l.written)) (cells_between l.at l.decl l.offset l.size) (left l.self)
-    ≡ each (meaning.leave spec.numbers (elements l.written)) (cells_between l.at l.decl 0 l.size) (left l.fn.self)
+    each (machine.leave spec.numbers (elements l.written)) (cells_between l.at l.decl l.offset l.size) (left l.self)
+    ≡ each (machine.leave spec.numbers (elements l.written)) (cells_between l.at l.decl 0 l.size) (left l.fn.self)
