@@ -16,7 +16,7 @@ use Rattle.normal_steps.specs.Steps.{CanWork, IsStep, stepped, play_after}
 use Rattle.normal_steps.specs.declared.step.Step.{Step}
 use Rattle.normal_steps.specs.declared.step.Step.TheVariants.{Work, Drop, Spill}
 use Rattle.normal_steps.proofs.Simulation.{append_after}
-use Rattle.first_plan.specs.NextUses.{is_wanted, next_use}
+use Rattle.first_plan.specs.NextUses.{is_planned, next_use}
 use Rattle.first_plan.specs.Victims.{last_needed, victim, is_missed, removal_of, removal}
 use Rattle.first_plan.specs.FirstPlan.{is_short, room_steps, turn_steps, steps_below}
 use Rattle.first_plan.specs.Ready.{readers_of, AreReaders, AreAhead, IsReady}
@@ -59,28 +59,28 @@ all_readers_done d n readers are e = record { count = are.many ∙ e; each = λ 
 
 -- the vertices from n on that the plan works on
 pub record AreLeft (d : Dag) (n : ℕ) (ahead : Vertices) : Type 0 where
-  pub members : (w : ℕ) → set.contains ahead w ≡ (not (ltb w n) && is_wanted d w)
+  pub members : (w : ℕ) → set.contains ahead w ≡ (not (ltb w n) && is_planned d w)
 
 pub all_left : (d : Dag) → IsDag d → (ahead : Vertices) → ahead ≡ set.difference (live_of d) d.inputs → AreLeft d 0 ahead
-all_left d dag ahead e = record { members = λ w. ap (λ s. set.contains s w) e ∙ wanted_is d dag w ∙ from_none (is_wanted d w) w }
+all_left d dag ahead e = record { members = λ w. ap (λ s. set.contains s w) e ∙ wanted_is d dag w ∙ from_none (is_planned d w) w }
   where
     from_none : (a : Bool) (w : ℕ) → a ≡ (not (ltb w 0) && a)
     from_none a w = grind (arith, nat_tests)
 
-pub left_wanted : (d : Dag) (v : ℕ) (ahead : Vertices) (here : Bool) → AreLeft d v ahead → set.contains ahead v ≡ here → is_wanted d v ≡ here
-left_wanted d v ahead here left e = own (set.contains ahead v) (is_wanted d v) v (left.members v) ∙ e
+pub left_wanted : (d : Dag) (v : ℕ) (ahead : Vertices) (here : Bool) → AreLeft d v ahead → set.contains ahead v ≡ here → is_planned d v ≡ here
+left_wanted d v ahead here left e = own (set.contains ahead v) (is_planned d v) v (left.members v) ∙ e
   where
     own : (b a : Bool) (v : ℕ) → b ≡ (not (ltb v v) && a) → a ≡ b
     own b a v h = grind (arith, nat_tests)
 
 pub left_ahead : (d : Dag) (v : ℕ) (ahead after : Vertices) → AreLeft d v ahead → after ≡ set.remove ahead v → AreAhead d v after
-left_ahead d v ahead after left e = record { members = λ w. let before = left.members w in ap (λ s. set.contains s w) e ∙ taken ahead v w (is_wanted d w) before }
+left_ahead d v ahead after left e = record { members = λ w. let before = left.members w in ap (λ s. set.contains s w) e ∙ taken ahead v w (is_planned d w) before }
   where
     taken : (s : Vertices) (v w : ℕ) (a : Bool) → set.contains s w ≡ (not (ltb w v) && a) → set.contains (set.remove s v) w ≡ (ltb v w && a)
     taken s v w a h = grind (arith, membership)
 
 pub ahead_left : (d : Dag) (v : ℕ) (after : Vertices) → AreAhead d v after → AreLeft d (v + 1) after
-ahead_left d v after ahead = record { members = λ w. ahead.members w ∙ next (is_wanted d w) v w }
+ahead_left d v after ahead = record { members = λ w. ahead.members w ∙ next (is_planned d w) v w }
   where
     next : (a : Bool) (v w : ℕ) → (ltb v w && a) ≡ (not (ltb w (v + 1)) && a)
     next a v w = grind (arith, nat_tests)
@@ -88,8 +88,8 @@ ahead_left d v after ahead = record { members = λ w. ahead.members w ∙ next (
 pub left_passed : (d : Dag) (v : ℕ) (ahead : Vertices) → AreLeft d v ahead → set.contains ahead v ≡ false → AreLeft d (v + 1) ahead
 left_passed d v ahead left out = record {
   members = λ w. elim (same_or_not w v) [
-    | inl e ↦ ap (set.contains ahead) e ∙ out ∙ passed w v (is_wanted d w) e
-    | inr other ↦ left.members w ∙ later w v (is_wanted d w) other
+    | inl e ↦ ap (set.contains ahead) e ∙ out ∙ passed w v (is_planned d w) e
+    | inr other ↦ left.members w ∙ later w v (is_planned d w) other
   ];
 }
   where
@@ -141,14 +141,14 @@ pub record IsMakingRoom (g : PebbleGame) (v : ℕ) (p : Position) (made all : Li
   pub steps : made ++ room_steps g v p ≡ all
   pub leads : play_after g p (room_steps g v p) ≡ target
 
-pub room_more : (g : PebbleGame) → IsDag g.dag → degree g.dag < g.slots → (v : ℕ) → is_wanted g.dag v ≡ true → (p q : Position) (s : Step) (made more all : List Step) (target : Position)
+pub room_more : (g : PebbleGame) → IsDag g.dag → degree g.dag < g.slots → (v : ℕ) → is_planned g.dag v ≡ true → (p q : Position) (s : Step) (made more all : List Step) (target : Position)
     → IsMakingRoom g v p made all target → is_short g p v ≡ true → s ≡ removal g p v → q ≡ stepped g p s → more ≡ made ++ s ∷ [] → IsMakingRoom g v q more all target
-room_more g dag room v wanted p q s made more all target making short s_is q_is more_is =
+room_more g dag room v planned p q s made more all target making short s_is q_is more_is =
     let next : q ≡ stepped g p (removal g p v) = q_is ∙ ap (stepped g p) s_is in
-    let first = room_first g dag room v wanted p making.ready short in
+    let first = room_first g dag room v planned p making.ready short in
     let grown : more ≡ made ++ removal g p v ∷ [] = more_is ∙ ap (λ x. made ++ x ∷ []) s_is in
     record {
-      ready = subst (IsReady g v) (sym next) (removal_ready g dag room v wanted p making.ready short);
+      ready = subst (IsReady g v) (sym next) (removal_ready g dag room v planned p making.ready short);
       steps =
           ap (λ x. more ++ room_steps g v x) next
           ∙ ap (λ x. x ++ room_steps g v (stepped g p (removal g p v))) grown
@@ -164,22 +164,22 @@ room_steps_made g v p made all target making enough = sym (append-nil made) ∙ 
 pub room_reached : (g : PebbleGame) (v : ℕ) (p : Position) (made all : List Step) (target : Position) → IsMakingRoom g v p made all target → is_short g p v ≡ false → p ≡ target
 room_reached g v p made all target making enough = ap (play_after g p) (sym (no_room_steps g v p enough)) ∙ making.leads
 
-pub removal_step : (g : PebbleGame) → IsDag g.dag → degree g.dag < g.slots → (v : ℕ) → is_wanted g.dag v ≡ true → (p : Position) (s : Step) → IsReady g v p → is_short g p v ≡ true → s ≡ removal g p v → IsStep g p s
-removal_step g dag room v wanted p s ready short e = subst (IsStep g p) (sym e) (removal_is_step g dag room v wanted p ready short)
+pub removal_step : (g : PebbleGame) → IsDag g.dag → degree g.dag < g.slots → (v : ℕ) → is_planned g.dag v ≡ true → (p : Position) (s : Step) → IsReady g v p → is_short g p v ≡ true → s ≡ removal g p v → IsStep g p s
+removal_step g dag room v planned p s ready short e = subst (IsStep g p) (sym e) (removal_is_step g dag room v planned p ready short)
 
-pub removal_takes : (g : PebbleGame) → IsDag g.dag → degree g.dag < g.slots → (v : ℕ) → is_wanted g.dag v ≡ true → (p q : Position) (s : Step) → IsReady g v p → is_short g p v ≡ true → s ≡ removal g p v → q ≡ stepped g p s
+pub removal_takes : (g : PebbleGame) → IsDag g.dag → degree g.dag < g.slots → (v : ℕ) → is_planned g.dag v ≡ true → (p q : Position) (s : Step) → IsReady g v p → is_short g p v ≡ true → s ≡ removal g p v → q ≡ stepped g p s
     → size q.red < size p.red
-removal_takes g dag room v wanted p q s ready short e f =
-    let fewer = fewer_red g dag room v wanted p ready short in
+removal_takes g dag room v planned p q s ready short e f =
+    let fewer = fewer_red g dag room v planned p ready short in
     let same = ap (λ x. size x.red) (f ∙ ap (stepped g p) e) in
     omega arith
 
 -- ---- one turn
 
-pub work_step : (g : PebbleGame) → IsDag g.dag → degree g.dag < g.slots → (v : ℕ) → is_wanted g.dag v ≡ true → (p q : Position) → IsReady g v p → q ≡ play_after g p (room_steps g v p) → CanWork g q v
-work_step g dag room v wanted p q ready e =
-    let made = room_made g dag room v wanted p ready in
-    subst (λ x. CanWork g x v) (sym e) (can_work g dag room v wanted (play_after g p (room_steps g v p)) made.ready made.enough)
+pub work_step : (g : PebbleGame) → IsDag g.dag → degree g.dag < g.slots → (v : ℕ) → is_planned g.dag v ≡ true → (p q : Position) → IsReady g v p → q ≡ play_after g p (room_steps g v p) → CanWork g q v
+work_step g dag room v planned p q ready e =
+    let made = room_made g dag room v planned p ready in
+    subst (λ x. CanWork g x v) (sym e) (can_work g dag room v planned (play_after g p (room_steps g v p)) made.ready made.enough)
 
 pub turn_steps_made : (g : PebbleGame) (v : ℕ) (p : Position) (before made more : List Step) → made ≡ before ++ room_steps g v p → more ≡ made ++ Work v ∷ [] → more ≡ before ++ turn_steps g v p
 turn_steps_made g v p before made more e f = f ∙ ap (λ x. x ++ Work v ∷ []) e ∙ append_assoc before (room_steps g v p) (Work v ∷ [])
@@ -202,10 +202,10 @@ none_done g dag p ahead e left = record { made = refl; position = e; left = all_
 pub done_ready : (g : PebbleGame) → IsDag g.dag → degree g.dag < g.slots → (n : ℕ) (steps : List Step) (p : Position) (ahead : Vertices) → AreDone g n steps p ahead → IsReady g n p
 done_ready g dag room n steps p ahead done = subst (IsReady g n) (sym done.position) (steps_are_under_way g dag room n).ready
 
-below_step : (g : PebbleGame) (n : ℕ) (wanted : Bool) → is_wanted g.dag n ≡ wanted
-    → steps_below g (n + 1) ≡ steps_below g n ++ cond wanted (turn_steps g n (play_after g (start g) (steps_below g n))) []
+below_step : (g : PebbleGame) (n : ℕ) (planned : Bool) → is_planned g.dag n ≡ planned
+    → steps_below g (n + 1) ≡ steps_below g n ++ cond planned (turn_steps g n (play_after g (start g) (steps_below g n))) []
 unfolding steps_below
-below_step g n wanted e =
+below_step g n planned e =
     (let one : n + 1 ≡ suc n = omega arith in ap (steps_below g) one)
     ∙ ap (λ b. steps_below g n ++ cond b (turn_steps g n (play_after g (start g) (steps_below g n))) []) e
 

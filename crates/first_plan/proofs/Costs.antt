@@ -19,7 +19,7 @@ use Rattle.normal_steps.specs.Plans.{IsNoPlan}
 use Rattle.normal_steps.specs.declared.step.Step.{Step}
 use Rattle.normal_steps.specs.declared.step.Step.TheVariants.{Work, Drop, Spill}
 use Rattle.normal_steps.proofs.Simulation.{append_cost}
-use Rattle.first_plan.specs.NextUses.{is_wanted, wanted_of}
+use Rattle.first_plan.specs.NextUses.{is_planned, planned_of}
 use Rattle.first_plan.specs.Victims.{is_missed, removal_of, removal, victim}
 use Rattle.first_plan.specs.FirstPlan.{is_short, removals, room_steps, turn_steps, steps_below, first_steps}
 use Rattle.first_plan.specs.Ready.{IsReady}
@@ -56,22 +56,22 @@ removals_work g v (suc times) p =
 turn_works : (g : PebbleGame) (v : ℕ) (p : Position) → work_vertices (turn_steps g v p) ≡ v ∷ []
 turn_works g v p = works_append (room_steps g v p) (Work v ∷ []) ∙ ap (λ vs. vs ++ v ∷ []) (removals_work g v (size p.red) p)
 
-next_works : (g : PebbleGame) (n : ℕ) (p : Position) (wanted : Bool) → work_vertices (cond wanted (turn_steps g n p) []) ≡ cond wanted (n ∷ []) []
+next_works : (g : PebbleGame) (n : ℕ) (p : Position) (planned : Bool) → work_vertices (cond planned (turn_steps g n p) []) ≡ cond planned (n ∷ []) []
 next_works g n p true = turn_works g n p
 next_works g n p false = refl
 
 has_early : (b a : Bool) (n count : ℕ) → b ≡ (ltb n count && a) → n < count → a ≡ b
 has_early b a n count e l = grind (arith, nat_tests)
 
-steps_work : (g : PebbleGame) (n : ℕ) → n ≤ g.dag.count → work_vertices (steps_below g n) ≡ rising n (wanted_of g.dag)
+steps_work : (g : PebbleGame) (n : ℕ) → n ≤ g.dag.count → work_vertices (steps_below g n) ≡ rising n (planned_of g.dag)
 unfolding steps_below rising
 steps_work g zero small = refl
 steps_work g (suc n) small =
     let at = play_after g (start g) (steps_below g n) in
-    works_append (steps_below g n) (cond (is_wanted g.dag n) (turn_steps g n at) [])
-    ∙ (λ i. steps_work g n (omega arith) i ++ next_works g n at (is_wanted g.dag n) i)
-    ∙ ap (λ b. rising n (wanted_of g.dag) ++ cond b (n ∷ []) [])
-    (has_early (set.contains (wanted_of g.dag) n) (is_wanted g.dag n) n g.dag.count (has_set_below (is_wanted g.dag) g.dag.count n) (omega arith))
+    works_append (steps_below g n) (cond (is_planned g.dag n) (turn_steps g n at) [])
+    ∙ (λ i. steps_work g n (omega arith) i ++ next_works g n at (is_planned g.dag n) i)
+    ∙ ap (λ b. rising n (planned_of g.dag) ++ cond b (n ∷ []) [])
+    (has_early (set.contains (planned_of g.dag) n) (is_planned g.dag n) n g.dag.count (has_set_below (is_planned g.dag) g.dag.count n) (omega arith))
 
 pub works_in_order : WorksInOrder
 works_in_order g = steps_work g g.dag.count (omega arith)
@@ -86,7 +86,7 @@ rising_pairs zero s = λ i j d l h. absurd (omega arith)
 rising_pairs (suc n) s = pairs_last n s (set.contains s n) (rising_pairs n s)
 
 pub works_once : WorksOnce
-works_once g = subst (AllPairs (λ v w. v < w)) (sym (works_in_order g)) (rising_pairs g.dag.count (wanted_of g.dag))
+works_once g = subst (AllPairs (λ v w. v < w)) (sym (works_in_order g)) (rising_pairs g.dag.count (planned_of g.dag))
 
 -- ---- the cost, where a load and a store cost at most 16
 
@@ -132,7 +132,7 @@ turn_cost game valid v p small ready =
     let loads = few_times g.load (size (set.difference (g.dag.preds v) (play_after g p room).red)) valid.weights.load_most (omega arith) in
     omega arith
 
-next_cost : (game : GameParts) → IsGame game → (n : ℕ) (p : Position) (wanted : Bool) → n < 256 → IsReady (game_of game) n p → play_cost (game_of game) p (cond wanted (turn_steps (game_of game) n p) []) ≤ 5120
+next_cost : (game : GameParts) → IsGame game → (n : ℕ) (p : Position) (planned : Bool) → n < 256 → IsReady (game_of game) n p → play_cost (game_of game) p (cond planned (turn_steps (game_of game) n p) []) ≤ 5120
 next_cost game valid n p true small ready = turn_cost game valid n p small ready
 next_cost game valid n p false small ready = omega arith
 
@@ -143,9 +143,9 @@ steps_cost game valid (suc n) small =
     let g = game_of game in
     let dag = IsDag-dag_of game.graph valid.valid in
     let at = play_after g (start g) (steps_below g n) in
-    let sum = append_cost g (start g) (steps_below g n) (cond (is_wanted g.dag n) (turn_steps g n at) []) in
+    let sum = append_cost g (start g) (steps_below g n) (cond (is_planned g.dag n) (turn_steps g n at) []) in
     let before = steps_cost game valid n (omega arith) in
-    let last = next_cost game valid n at (is_wanted g.dag n) (omega arith) (steps_are_under_way g dag valid.room n).ready in
+    let last = next_cost game valid n at (is_planned g.dag n) (omega arith) (steps_are_under_way g dag valid.room n).ready in
     omega arith
 
 finish_few : (game : GameParts) → IsGame game → (p : Position) → finish_cost (game_of game) p ≤ 4096

@@ -8,7 +8,7 @@ use Rattle.comp_graph.specs.Dags.{Dag, IsDag, is_live, live_of}
 use Rattle.comp_graph.proofs.DagLaws.{live_vertex}
 use Rattle.comp_graph.proofs.Live.{has_live_of}
 use Rattle.first_plan.specs.Passing.{least_passing}
-use Rattle.first_plan.specs.NextUses.{is_wanted, wanted_of, is_later_use, next_use}
+use Rattle.first_plan.specs.NextUses.{is_planned, planned_of, is_later_use, next_use}
 use Rattle.first_plan.specs.Ready.{readers_of, AreAhead}
 use Rattle.first_plan.specs.Laws.{IsNextUse, NextUseIsNext, NextUsesExist}
 use Rattle.first_plan.proofs.Passing.{IsLeastFrom, least_from-is, least_from-by}
@@ -18,30 +18,30 @@ both a b h = grind arith
 
 -- ---- vertices that the plan works on
 
-pub wanted_live : (d : Dag) (v : ℕ) → is_wanted d v ≡ true → is_live d v ≡ true
-unfolding is_wanted
+pub wanted_live : (d : Dag) (v : ℕ) → is_planned d v ≡ true → is_live d v ≡ true
+unfolding is_planned
 wanted_live d v h = (both _ _ h).0
 
-pub wanted_no_input : (d : Dag) (v : ℕ) → is_wanted d v ≡ true → v ∉ d.inputs
-unfolding is_wanted
+pub wanted_no_input : (d : Dag) (v : ℕ) → is_planned d v ≡ true → v ∉ d.inputs
+unfolding is_planned
 wanted_no_input d v h = grind arith
 
-pub not_wanted : (d : Dag) (v : ℕ) → is_wanted d v ≡ false → is_live d v ≡ true → v ∈ d.inputs
-unfolding is_wanted
+pub not_wanted : (d : Dag) (v : ℕ) → is_planned d v ≡ false → is_live d v ≡ true → v ∈ d.inputs
+unfolding is_planned
 not_wanted d v h live = grind arith
 
-pub wanted_vertex : (d : Dag) → IsDag d → (v : ℕ) → is_wanted d v ≡ true → v < d.count
+pub wanted_vertex : (d : Dag) → IsDag d → (v : ℕ) → is_planned d v ≡ true → v < d.count
 wanted_vertex d dag v h = live_vertex d dag v (wanted_live d v h)
 
 wanted_or : (b a : Bool) (v n : ℕ) → b ≡ (ltb v n && a) → (a ≡ true → v < n) → b ≡ a
 wanted_or b a v n e h = grind (arith, nat_tests)
 
-pub has_wanted : (d : Dag) → IsDag d → (v : ℕ) → set.contains (wanted_of d) v ≡ is_wanted d v
-has_wanted d dag v = wanted_or _ (is_wanted d v) v d.count (has_set_below (is_wanted d) d.count v) (wanted_vertex d dag v)
+pub has_wanted : (d : Dag) → IsDag d → (v : ℕ) → set.contains (planned_of d) v ≡ is_planned d v
+has_wanted d dag v = wanted_or _ (is_planned d v) v d.count (has_set_below (is_planned d) d.count v) (wanted_vertex d dag v)
 
 -- the live vertices but for the inputs
-pub wanted_is : (d : Dag) → IsDag d → (v : ℕ) → set.contains (set.difference (live_of d) d.inputs) v ≡ is_wanted d v
-unfolding is_wanted
+pub wanted_is : (d : Dag) → IsDag d → (v : ℕ) → set.contains (set.difference (live_of d) d.inputs) v ≡ is_planned d v
+unfolding is_planned
 wanted_is d dag v = let live = has_live_of d dag v in grind (arith, membership)
 
 -- ---- the next use
@@ -71,11 +71,11 @@ later_use : (v w : ℕ) (a b : Bool) → v < w → a ≡ true → b ≡ true →
 later_use v w a b l p q = grind (arith, nat_tests)
 
 -- no reader lies before it
-pub next_use_before : (d : Dag) → IsDag d → (v u w : ℕ) → v < w → is_wanted d w ≡ true → u ∈ d.preds w → next_use d v u ≤ w
-next_use_before d dag v u w after wanted reads =
+pub next_use_before : (d : Dag) → IsDag d → (v u w : ℕ) → v < w → is_planned d w ≡ true → u ∈ d.preds w → next_use d v u ≤ w
+next_use_before d dag v u w after planned reads =
     elim (apart (next_use d v u) w) [
       | inl l ↦ l
-      | inr l ↦ absurd (opposed (is_later_use d v u w) (later_use v w (is_wanted d w) (set.contains (d.preds w) u) after wanted reads) ((next_uses_exist d v u).none_before w l))
+      | inr l ↦ absurd (opposed (is_later_use d v u w) (later_use v w (is_planned d w) (set.contains (d.preds w) u) after planned reads) ((next_uses_exist d v u).none_before w l))
     ]
   where
     apart : (a b : ℕ) → (a ≤ b) ⊎ (b < a)
@@ -98,13 +98,13 @@ pub has_uses : (d : Dag) → IsDag d → (v u : ℕ) (readers ahead uses : Verti
 has_uses d dag v u readers ahead uses readers_are ahead_are uses_are w =
     ap (λ s. set.contains s w) uses_are
     ∙ (let has : set.contains (set.intersection readers ahead) w ≡ (set.contains readers w && set.contains ahead w) = grind (arith, membership) in has)
-    ∙ readers_step (set.contains ahead w) (set.contains readers w) (ltb v w) (is_wanted d w) (set.contains (d.preds w) u) (ltb w d.count)
+    ∙ readers_step (set.contains ahead w) (set.contains readers w) (ltb v w) (is_planned d w) (set.contains (d.preds w) u) (ltb w d.count)
     (ahead_are.members w)
     (ap (λ s. set.contains s w) readers_are ∙ has_set_below (λ w. set.contains (d.preds w) u) d.count w)
     (λ h. let l = wanted_vertex d dag w h in grind (arith, nat_tests))
 
 pub uses_below : (d : Dag) → IsDag d → (v u : ℕ) (uses : Vertices) → ((w : ℕ) → set.contains uses w ≡ is_later_use d v u w) → AllBelow d.count uses
-uses_below d dag v u uses are = record { below = λ w h. let is = are w in wanted_vertex d dag w (parts (ltb v w) (is_wanted d w) (set.contains (d.preds w) u) (sym is ∙ h)) }
+uses_below d dag v u uses are = record { below = λ w h. let is = are w in wanted_vertex d dag w (parts (ltb v w) (is_planned d w) (set.contains (d.preds w) u) (sym is ∙ h)) }
   where
     parts : (a b c : Bool) → (a && (b && c)) ≡ true → b ≡ true
     parts a b c h = grind arith

@@ -15,7 +15,7 @@ use Rattle.normal_steps.specs.declared.step.Step.{Step}
 use Rattle.normal_steps.specs.declared.step.Step.TheVariants.{Work, Drop, Spill}
 use Rattle.normal_steps.proofs.Sound.{start_is_sound, step_sound, in_remove}
 use Rattle.normal_steps.proofs.Simulation.{append_play, append_after}
-use Rattle.first_plan.specs.NextUses.{is_wanted, is_used_later, next_use}
+use Rattle.first_plan.specs.NextUses.{is_planned, is_used_later, next_use}
 use Rattle.first_plan.specs.Victims.{IsLastNeeded, victim, is_missed, removal_of, removal}
 use Rattle.first_plan.specs.FirstPlan.{is_short, removals, room_steps, turn_steps, steps_below}
 use Rattle.first_plan.specs.Ready.{IsReadFrom, IsReady}
@@ -38,13 +38,13 @@ not_less a b h = grind (arith, nat_tests)
 red_of_worked : (red preds : Vertices) (v x : ℕ) → x ∈ set.insert (set.union red preds) v → x ∉ set.insert preds v → x ∈ set.difference red preds
 red_of_worked red preds v x a b = grind (arith, membership)
 
-module _ (g : PebbleGame) (dag : IsDag g.dag) (room : degree g.dag < g.slots) (v : ℕ) (wanted : is_wanted g.dag v ≡ true) where
+module _ (g : PebbleGame) (dag : IsDag g.dag) (room : degree g.dag < g.slots) (v : ℕ) (planned : is_planned g.dag v ≡ true) where
   own_size : size (set.insert (g.dag.preds v) v) ≤ degree g.dag + 1
-  own_size = let few = degree_bounds g.dag dag v (wanted_live g.dag v wanted) in let one = size_insert_le (g.dag.preds v) v in omega arith
+  own_size = let few = degree_bounds g.dag dag v (wanted_live g.dag v planned) in let one = size_insert_le (g.dag.preds v) v in omega arith
 
   worked_size : (p : Position) → size (worked g p.red v) ≤ size p.red + degree g.dag + 1
   worked_size p =
-      let few = degree_bounds g.dag dag v (wanted_live g.dag v wanted) in
+      let few = degree_bounds g.dag dag v (wanted_live g.dag v planned) in
       let one = size_insert_le (set.union p.red (g.dag.preds v)) v in
       let sum = size_union_le p.red (g.dag.preds v) in
       omega arith
@@ -121,8 +121,8 @@ module _ (g : PebbleGame) (dag : IsDag g.dag) (room : degree g.dag < g.slots) (v
       elim (at_or_after read.reader read.late) [
         | inl e ↦ absurd (not_both (set.contains (g.dag.preds v) u) (ap (λ w. set.contains (g.dag.preds w) u) (sym e) ∙ read.reads) out)
         | inr later ↦
-            let next = next_use_before g.dag dag v u read.reader later read.wanted read.reads in
-            let vertex = wanted_vertex g.dag dag read.reader read.wanted in
+            let next = next_use_before g.dag dag v u read.reader later read.planned read.reads in
+            let vertex = wanted_vertex g.dag dag read.reader read.planned in
             blue_unless (set.contains p.blue u) (is_used_later g.dag v u) (set.contains g.dag.outputs u) missed (inl (used (next_use g.dag v u) g.dag.count (omega arith)))
       ]
     where
@@ -226,12 +226,12 @@ module _ (g : PebbleGame) (dag : IsDag g.dag) (room : degree g.dag < g.slots) (v
   -- where there is room, v can be worked on
   pub can_work : (p : Position) → IsReady g v p → is_short g p v ≡ false → CanWork g p v
   can_work p ready enough = record {
-    live = wanted_live g.dag v wanted;
-    no_input = wanted_no_input g.dag v wanted;
+    live = wanted_live g.dag v planned;
+    no_input = wanted_no_input g.dag v planned;
     not_red = false_unless (set.contains p.red v) (λ h. let before = ready.red_before v h in absurd (omega arith));
     preds_held = λ x h.
-        ready.held x (dag.preds_below v x h) (live_before g.dag dag x v h (wanted_live g.dag v wanted))
-        (inr (record { reader = v; late = omega arith; wanted = wanted; reads = h }));
+        ready.held x (dag.preds_below v x h) (live_before g.dag dag x v h (wanted_live g.dag v planned))
+        (inr (record { reader = v; late = omega arith; planned = planned; reads = h }));
     fits = not_less g.slots (size (worked g p.red v)) enough;
   }
 
@@ -240,7 +240,7 @@ module _ (g : PebbleGame) (dag : IsDag g.dag) (room : degree g.dag < g.slots) (v
 
   needed_before : (x : ℕ) → (x ∈ g.dag.outputs) ⊎ IsReadFrom g.dag (v + 1) x → (x ∈ g.dag.outputs) ⊎ IsReadFrom g.dag v x
   needed_before x (inl output) = inl output
-  needed_before x (inr read) = inr (record { reader = read.reader; late = let l = read.late in omega arith; wanted = read.wanted; reads = read.reads })
+  needed_before x (inr read) = inr (record { reader = read.reader; late = let l = read.late in omega arith; planned = read.planned; reads = read.reads })
 
   pub work_ready : (p : Position) → IsReady g v p → is_short g p v ≡ false → IsReady g (v + 1) (stepped g p (Work v))
   work_ready p ready enough = record {
@@ -297,10 +297,10 @@ earlier_or_at n x h = grind arith
 
 needed_too : (d : Dag) (n x : ℕ) → (x ∈ d.outputs) ⊎ IsReadFrom d (n + 1) x → (x ∈ d.outputs) ⊎ IsReadFrom d n x
 needed_too d n x (inl output) = inl output
-needed_too d n x (inr read) = inr (record { reader = read.reader; late = let l = read.late in omega arith; wanted = read.wanted; reads = read.reads })
+needed_too d n x (inr read) = inr (record { reader = read.reader; late = let l = read.late in omega arith; planned = read.planned; reads = read.reads })
 
 -- a vertex that the plan does not work on is an input, or not live
-pub passed_ready : (g : PebbleGame) (v : ℕ) (p : Position) → is_wanted g.dag v ≡ false → IsReady g v p → IsReady g (v + 1) p
+pub passed_ready : (g : PebbleGame) (v : ℕ) (p : Position) → is_planned g.dag v ≡ false → IsReady g v p → IsReady g (v + 1) p
 passed_ready g v p out ready = record {
   sound = ready.sound;
   red_before = λ x h. let before = ready.red_before x h in omega arith;
@@ -315,13 +315,13 @@ pub record AreUnderWay (g : PebbleGame) (n : ℕ) (ss : List Step) : Type 0 wher
   pub play : IsPlay g (start g) ss
   pub ready : IsReady g n (play_after g (start g) ss)
 
-under_way_step : (g : PebbleGame) → IsDag g.dag → degree g.dag < g.slots → (n : ℕ) (ss : List Step) (wanted : Bool) → is_wanted g.dag n ≡ wanted → AreUnderWay g n ss
-    → AreUnderWay g (n + 1) (ss ++ cond wanted (turn_steps g n (play_after g (start g) ss)) [])
-under_way_step g dag room n ss true wanted before =
+under_way_step : (g : PebbleGame) → IsDag g.dag → degree g.dag < g.slots → (n : ℕ) (ss : List Step) (planned : Bool) → is_planned g.dag n ≡ planned → AreUnderWay g n ss
+    → AreUnderWay g (n + 1) (ss ++ cond planned (turn_steps g n (play_after g (start g) ss)) [])
+under_way_step g dag room n ss true planned before =
     let at = play_after g (start g) ss in
     record {
-      play = append_play g (start g) ss (turn_steps g n at) before.play (turn_play g dag room n wanted at before.ready);
-      ready = subst (IsReady g (n + 1)) (sym (append_after g (start g) ss (turn_steps g n at))) (turn_ready g dag room n wanted at before.ready);
+      play = append_play g (start g) ss (turn_steps g n at) before.play (turn_play g dag room n planned at before.ready);
+      ready = subst (IsReady g (n + 1)) (sym (append_after g (start g) ss (turn_steps g n at))) (turn_ready g dag room n planned at before.ready);
     }
 under_way_step g dag room n ss false out before =
     let same : ss ++ [] ≡ ss = append-nil ss in
@@ -334,7 +334,7 @@ pub steps_are_under_way : (g : PebbleGame) → IsDag g.dag → degree g.dag < g.
 unfolding steps_below
 steps_are_under_way g dag room zero = record { play = tt; ready = start_ready g dag }
 steps_are_under_way g dag room (suc n) =
-    ready_at g (n + 1) (suc n) _ (omega arith) (under_way_step g dag room n (steps_below g n) (is_wanted g.dag n) refl (steps_are_under_way g dag room n))
+    ready_at g (n + 1) (suc n) _ (omega arith) (under_way_step g dag room n (steps_below g n) (is_planned g.dag n) refl (steps_are_under_way g dag room n))
 
 pub first_plan_finishes : FirstPlanFinishes
 first_plan_finishes g dag room =

@@ -8,7 +8,7 @@ use Rattle.pebble_rules.specs.declared.position.Position.{Position}
 use Rattle.normal_steps.specs.Steps.{worked, stepped, play_after}
 use Rattle.normal_steps.specs.declared.step.Step.{Step}
 use Rattle.normal_steps.specs.declared.step.Step.TheVariants.{Work}
-use Rattle.first_plan.specs.NextUses.{is_wanted}
+use Rattle.first_plan.specs.NextUses.{is_planned}
 use Rattle.first_plan.specs.Victims.{removal}
 
 -- the red vertices, the predecessors of v and v are more than the slots
@@ -31,7 +31,7 @@ turn_steps g v p = room_steps g v p ++ Work v ∷ []
 -- the turns of the vertices below n, in rising number
 unfoldable pub steps_below : PebbleGame → ℕ → List Step
 steps_below g zero = []
-steps_below g (suc n) = steps_below g n ++ cond (is_wanted g.dag n) (turn_steps g n (play_after g (start g) (steps_below g n))) []
+steps_below g (suc n) = steps_below g n ++ cond (is_planned g.dag n) (turn_steps g n (play_after g (start g) (steps_below g n))) []
 
 -- the steps of the first plan
 abbrev pub first_steps : PebbleGame → List Step

@@ -7,7 +7,7 @@ use Rattle.comp_graph.specs.Games.{PebbleGame}
 use Rattle.pebble_rules.specs.Rules.{start}
 use Rattle.pebble_rules.specs.declared.position.Position.{Position}
 use Rattle.normal_steps.specs.Steps.{IsFinishing, work_vertices}
-use Rattle.first_plan.specs.NextUses.{is_wanted, wanted_of, is_later_use, next_use}
+use Rattle.first_plan.specs.NextUses.{is_planned, planned_of, is_later_use, next_use}
 use Rattle.first_plan.specs.Victims.{last_needed, IsLastNeeded, victim}
 use Rattle.first_plan.specs.FirstPlan.{is_short, first_steps}
 use Rattle.first_plan.specs.Ready.{IsReady}
@@ -18,7 +18,7 @@ FirstPlanFinishes = (g : PebbleGame) → IsDag g.dag → degree g.dag < g.slots 
 
 -- its Work steps are on just the live vertices that are no inputs, in rising number
 abbrev pub WorksInOrder : Type 0
-WorksInOrder = (g : PebbleGame) → work_vertices (first_steps g) ≡ rising g.dag.count (wanted_of g.dag)
+WorksInOrder = (g : PebbleGame) → work_vertices (first_steps g) ≡ rising g.dag.count (planned_of g.dag)
 
 -- so no step works on a vertex twice: each works on a greater one than those before it
 abbrev pub WorksOnce : Type 0
@@ -44,5 +44,5 @@ LastNeededIsLast = (d : Dag) (v : ℕ) (s : Vertices) → AllBelow d.count s →
 
 -- where a turn lacks a slot, the victim is a red vertex that Work(v) does not read
 abbrev pub VictimIsSpare : Type 0
-VictimIsSpare = (g : PebbleGame) → IsDag g.dag → degree g.dag < g.slots → (v : ℕ) → is_wanted g.dag v ≡ true → (p : Position) → IsReady g v p
+VictimIsSpare = (g : PebbleGame) → IsDag g.dag → degree g.dag < g.slots → (v : ℕ) → is_planned g.dag v ≡ true → (p : Position) → IsReady g v p
     → is_short g p v ≡ true → (victim g p v ∈ p.red) × (victim g p v ∉ g.dag.preds v)

@@ -6,16 +6,16 @@ use Rattle.comp_graph.specs.Dags.{Dag, is_live}
 use Rattle.first_plan.specs.Passing.{least_passing}
 
 -- the plan works on v: v is live and no input
-unfoldable pub is_wanted : Dag → ℕ → Bool
-is_wanted d v = is_live d v && not (set.contains d.inputs v)
+unfoldable pub is_planned : Dag → ℕ → Bool
+is_planned d v = is_live d v && not (set.contains d.inputs v)
 
 -- the vertices that the plan works on
-abbrev pub wanted_of : Dag → Vertices
-wanted_of d = set_below (is_wanted d) d.count
+abbrev pub planned_of : Dag → Vertices
+planned_of d = set_below (is_planned d) d.count
 
 -- the plan works on w after v, and w reads u
 abbrev pub is_later_use : Dag → ℕ → ℕ → ℕ → Bool
-is_later_use d v u w = nat_lt v w && (is_wanted d w && set.contains (d.preds w) u)
+is_later_use d v u w = nat_lt v w && (is_planned d w && set.contains (d.preds w) u)
 
 -- the next use of u after Work(v): the least such w; if there is none, the number of vertices, which is further than each of them
 unfoldable pub next_use : Dag → ℕ → ℕ → ℕ

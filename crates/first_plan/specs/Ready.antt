@@ -6,13 +6,13 @@ use Rattle.comp_graph.specs.Dags.{Dag, is_live}
 use Rattle.comp_graph.specs.Games.{PebbleGame}
 use Rattle.pebble_rules.specs.declared.position.Position.{Position}
 use Rattle.normal_steps.specs.Sound.{IsSound}
-use Rattle.first_plan.specs.NextUses.{is_wanted}
+use Rattle.first_plan.specs.NextUses.{is_planned}
 
 -- a vertex from n on that the plan works on reads x
 pub record IsReadFrom (d : Dag) (n x : ℕ) : Type 0 where
   pub reader : ℕ
   pub late : n ≤ reader
-  pub wanted : is_wanted d reader ≡ true
+  pub planned : is_planned d reader ≡ true
   pub reads : x ∈ d.preds reader
 
 -- a position before the turn of n: it is sound, the red vertices lie below n, and each live vertex below n that is an output or will be
@@ -33,10 +33,10 @@ pub record AreReaders (d : Dag) (readers : List Vertices) : Type 0 where
 
 -- the vertices after v that the plan works on
 pub record AreAhead (d : Dag) (v : ℕ) (ahead : Vertices) : Type 0 where
-  pub members : (w : ℕ) → set.contains ahead w ≡ (nat_lt v w && is_wanted d w)
+  pub members : (w : ℕ) → set.contains ahead w ≡ (nat_lt v w && is_planned d w)
 
 -- what is known at the turn of v: the plan works on it, and the readers and the vertices ahead are these
 pub record IsTurn (d : Dag) (v : ℕ) (readers : List Vertices) (ahead : Vertices) : Type 0 where
-  pub wanted : is_wanted d v ≡ true
+  pub planned : is_planned d v ≡ true
   pub reads : AreReaders d readers
   pub after : AreAhead d v ahead

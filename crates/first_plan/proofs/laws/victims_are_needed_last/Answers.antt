@@ -14,4 +14,4 @@ pub returns-clause-last : goal.returns-clause-last
 returns-clause-last c = last_needed_is_last
 
 pub returns-clause-spare : goal.returns-clause-spare
-returns-clause-spare c = λ g dag room v wanted p ready short. (victim_red g dag room v wanted p ready short, victim_not_read g dag room v wanted p ready short)
+returns-clause-spare c = λ g dag room v planned p ready short. (victim_red g dag room v planned p ready short, victim_not_read g dag room v planned p ready short)

@@ -22,7 +22,7 @@ pub take_turn-requires-clause-turn : goal.take_turn-requires-clause-turn
 take_turn-requires-clause-turn c =
     let d = dag_of c.args.game.now.graph in
     record {
-      wanted = left_wanted d c.loop-v.v c.loop-v.ahead _ c.loop-v.invariant.left (sym c.has.ensures.value ∙ c.if-has.true);
+      planned = left_wanted d c.loop-v.v c.loop-v.ahead _ c.loop-v.invariant.left (sym c.has.ensures.value ∙ c.if-has.true);
       reads = subst (AreReaders d) (sym c.deref.ensures.value) (subst (λ x. AreReaders (dag_of x) c.in_ok-readers.readers.items) c.graph-graph.ensures.value c.in_ok-readers.ensures);
       after = left_ahead d c.loop-v.v c.loop-v.ahead c.without-ahead.result c.loop-v.invariant.left c.without-ahead.ensures;
     }

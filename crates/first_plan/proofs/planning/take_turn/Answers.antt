@@ -6,7 +6,7 @@ use Rattle.first_plan.proofs.planning.take_turn.Goals as goal
 
 pub after-requires : goal.after-requires
 after-requires c =
-    work_step (game_of c.args.game.now) (IsDag-dag_of c.args.game.now.graph c.requires.valid.valid) c.requires.valid.room c.args.turn.now.vertex c.requires.turn.wanted c.args.position c.in_ok-position.position c.requires.ready
+    work_step (game_of c.args.game.now) (IsDag-dag_of c.args.game.now.graph c.requires.valid.valid) c.requires.valid.room c.args.turn.now.vertex c.requires.turn.planned c.args.position c.in_ok-position.position c.requires.ready
     c.in_ok-position.ensures.position
 
 pub returns-clause-position : goal.returns-clause-position

@@ -11,20 +11,20 @@ use Rattle.first_plan.proofs.victims.removal.Goals as goal
 pub preds-requires : goal.preds-requires
 preds-requires c =
     let dag = IsDag-dag_of c.args.game.now.graph c.graph-graph.ensures.valid.valid in
-    subst (λ x. c.args.turn.now.vertex < length x.nodes) (sym c.graph-graph.ensures.value) (wanted_vertex (dag_of c.args.game.now.graph) dag c.args.turn.now.vertex c.requires.turn.wanted)
+    subst (λ x. c.args.turn.now.vertex < length x.nodes) (sym c.graph-graph.ensures.value) (wanted_vertex (dag_of c.args.game.now.graph) dag c.args.turn.now.vertex c.requires.turn.planned)
 
 pub last_needed-victim-requires-clause-below : goal.last_needed-victim-requires-clause-below
 last_needed-victim-requires-clause-below c =
     let valid = c.graph-graph.ensures.valid in
     let dag = IsDag-dag_of c.args.game.now.graph valid.valid in
     vertices_below c.args.game.now c.graph-graph.result.now c.args.position.now c.args.turn.now.vertex c.preds.result c.minus-spare.result c.graph-graph.ensures.value c.preds.ensures c.minus-spare.ensures
-    (spare_below (game_of c.args.game.now) dag valid.room c.args.turn.now.vertex c.requires.turn.wanted c.args.position.now c.requires.ready)
+    (spare_below (game_of c.args.game.now) dag valid.room c.args.turn.now.vertex c.requires.turn.planned c.args.position.now c.requires.ready)
 
 pub last_needed-victim-requires-clause-some : goal.last_needed-victim-requires-clause-some
 last_needed-victim-requires-clause-some c =
     let valid = c.graph-graph.ensures.valid in
     let dag = IsDag-dag_of c.args.game.now.graph valid.valid in
-    let one = spare_member (game_of c.args.game.now) dag valid.room c.args.turn.now.vertex c.requires.turn.wanted c.args.position.now c.requires.ready c.requires.short in
+    let one = spare_member (game_of c.args.game.now) dag valid.room c.args.turn.now.vertex c.requires.turn.planned c.args.position.now c.requires.ready c.requires.short in
     some_spare c.args.game.now c.graph-graph.result.now c.args.position.now c.args.turn.now.vertex c.preds.result c.minus-spare.result c.graph-graph.ensures.value c.preds.ensures c.minus-spare.ensures one.0 one.1
 
 pub is_missed-requires : goal.is_missed-requires
@@ -32,7 +32,7 @@ is_missed-requires c =
     let valid = c.graph-graph.ensures.valid in
     let dag = IsDag-dag_of c.args.game.now.graph valid.valid in
     let below = vertices_below c.args.game.now c.graph-graph.result.now c.args.position.now c.args.turn.now.vertex c.preds.result c.minus-spare.result c.graph-graph.ensures.value c.preds.ensures c.minus-spare.ensures
-    (spare_below (game_of c.args.game.now) dag valid.room c.args.turn.now.vertex c.requires.turn.wanted c.args.position.now c.requires.ready) in
+    (spare_below (game_of c.args.game.now) dag valid.room c.args.turn.now.vertex c.requires.turn.planned c.args.position.now c.requires.ready) in
     below.below c.last_needed-victim.result.vertex c.last_needed-victim.ensures.member
 
 pub returns-then-is_missed : goal.returns-then-is_missed
