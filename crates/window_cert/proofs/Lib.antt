@@ -1,0 +1,13 @@
+pub mod SetBytes
+pub mod Listed
+pub mod Begins
+pub mod OneSet
+pub mod OneSpelling
+pub mod Grown
+pub mod PieceLaws
+pub mod PartLaws
+pub mod WindowRead
+pub mod HeaderLaws
+pub mod CertRead
+pub mod FaultLaws
+pub mod Missing

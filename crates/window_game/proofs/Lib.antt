@@ -1,0 +1,4 @@
+-- The lemmas for the laws.
+pub mod Showing
+pub mod InTime
+pub mod Sums

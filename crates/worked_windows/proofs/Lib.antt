@@ -1,0 +1,2 @@
+-- The butterfly is a graph.
+pub mod Nodes
