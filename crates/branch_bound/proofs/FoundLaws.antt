@@ -10,7 +10,7 @@ use Rattle.pebble_rules.specs.Rules.{start}
 use Rattle.normal_steps.specs.Steps.{IsFinishing, total_cost}
 use Rattle.normal_steps.specs.Plans.{PlanParts, IsPlan}
 use Rattle.normal_steps.specs.declared.step.Step.{Step}
-use Rattle.forced_bounds.specs.Lists.{IsIn}
+use Rattle.comp_graph.specs.Lists.{IsIn}
 use Rattle.forced_bounds.specs.FloorLaws.{FloorOfFinish}
 use Rattle.potential_cert.specs.declared.tables.Row.{Row}
 use Rattle.potential_cert.specs.Table.{TableParts, AreDistinct, IsRising, IsSupport}

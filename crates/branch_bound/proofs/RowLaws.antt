@@ -16,13 +16,13 @@ use Rattle.comp_graph.specs.Vertices.{AllBelow}
 use Rattle.pebble_rules.specs.declared.position.Position.{Position}
 use Rattle.pebble_rules.specs.Positions.{position_order, position_words}
 use Rattle.pebble_rules.proofs.Order.{order_equal}
-use Rattle.forced_bounds.specs.Lists.{IsIn}
+use Rattle.comp_graph.specs.Lists.{IsIn}
 use Rattle.potential_cert.specs.declared.tables.Row.{Row}
 use Rattle.potential_cert.specs.Table.{IsRising}
 use Rattle.potential_cert.specs.Order.{precedes}
 use Rattle.search_laws.specs.Search.{is_expanded}
 use Rattle.search_laws.proofs.Lists.{append_cases, in_left, in_right}
-use Rattle.search_laws.proofs.Tests.{contains_in, in_contains}
+use Rattle.comp_graph.proofs.Lists.{contains_in, in_contains}
 use Rattle.search_laws.specs.Packing.{Store}
 use Rattle.search_laws.proofs.Bounds.{row_at}
 use Rattle.branch_bound.specs.Frontiers.{StandApart, rows_below}

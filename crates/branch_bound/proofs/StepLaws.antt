@@ -14,7 +14,7 @@ use Rattle.normal_steps.specs.LegalSteps.{AreLegalSteps}
 use Rattle.normal_steps.specs.StepTests.{can_finish, legal_steps}
 use Rattle.normal_steps.specs.declared.step.Step.{Step}
 use Rattle.normal_steps.proofs.StepTestLaws.{legal_steps_are_one_list, legal_steps_are_listed}
-use Rattle.forced_bounds.specs.Lists.{IsIn}
+use Rattle.comp_graph.specs.Lists.{IsIn}
 use Rattle.forced_bounds.specs.Floor.{floor}
 use Rattle.forced_bounds.specs.FloorLaws.{FloorOfFinish}
 use Rattle.search_laws.specs.Search as search

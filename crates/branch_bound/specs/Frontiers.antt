@@ -6,7 +6,7 @@ use Rattle.pebble_rules.specs.Rules.{start}
 use Rattle.normal_steps.specs.Steps.{IsFinishing, total_cost}
 use Rattle.normal_steps.specs.StepTests.{legal_steps}
 use Rattle.normal_steps.specs.declared.step.Step.{Step}
-use Rattle.forced_bounds.specs.Lists.{IsIn}
+use Rattle.comp_graph.specs.Lists.{IsIn}
 use Rattle.potential_cert.specs.declared.tables.Row.{Row}
 use Rattle.position_arena.specs.declared.rows.Head.{Head}
 use Rattle.position_arena.specs.Arenas.{Arena, IsWithinWords, slot_at}

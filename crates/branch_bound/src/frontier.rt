@@ -15,7 +15,7 @@ use comp_graph::{Game, NoMemory};
 use forced_bounds::floor_below;
 use normal_steps::{Step, Steps, after, finish};
 use pebble_rules::Position;
-use position_arena::{Head, Rows};
+use position_arena::{Head, Positions};
 use potential_cert::Row;
 use std::alloc::Global;
 use std::sync::ledger::Ledger;
@@ -69,7 +69,7 @@ pub struct Best {
 /// good for nothing then but to be dropped, as the searches do.
 #[derive(Drop)]
 pub struct Frontier {
-    pub rows: Rows,
+    pub rows: Positions,
     pub notes: Vec<Note>,
     pub queues: CostQueues,
 }
@@ -203,7 +203,7 @@ impl Frontier {
         Ok(())
     }
 
-    /// Tries each legal step from the row at the place `k`. That is one tick of `steps`, which only this call makes.
+    /// Tries each legal step from the row at the place `k`, and counts one more in `steps`. An error can leave steps untried.
     pub fn expand<L: Ledger>(
         &mut self,
         game: &Game,

@@ -1,6 +1,7 @@
 //! The search: turns until the budget is spent or no place waits, and the answer that is made of what they leave.
 ghost use Rattle.std.specs.Prelude.{◌≡◌, ℕ, ◌+◌, ◌<◌, ◌≤◌, ◌≢◌, ◌↔◌, length, IfOk, None, IsPermutation, IsSortedBy};
 ghost use Rattle.comp_graph.specs.Games.{IsGame, game_of};
+ghost use Rattle.step_count.specs.Openings.{Opens};
 ghost use Rattle.pebble_rules.specs.Rules.{start};
 ghost use Rattle.normal_steps.specs.Plans.{IsPlan};
 ghost use Rattle.normal_steps.specs.Steps.{IsFinishing, total_cost};
@@ -17,7 +18,7 @@ use comp_graph::{Game, NoMemory};
 use forced_bounds::floor;
 use normal_steps::{Plan, Step};
 use pebble_rules::Position;
-use position_arena::{Head, Rows};
+use position_arena::{Head, Positions};
 use potential_cert::{Row, Table};
 use std::alloc::Global;
 use std::marker::Brand;
@@ -53,23 +54,18 @@ pub(crate) struct Searched {
     pub best: Best,
 }
 
-/// The places before the first turn: the start, where the first plan costs more than its floor, and else none.
-pub fn begin(
-    alloc: Global,
-    game: &Game,
-    first: &[Step],
-    best: &Best,
-    budget: u32,
-) -> Result<Frontier, NoMemory>
+/// The places before the first turn: the start, where the first plan costs more than its floor, and else none. They are the same for each
+/// budget.
+pub fn begin(alloc: Global, game: &Game, first: &[Step], best: &Best) -> Result<Frontier, NoMemory>
     requires game { IsGame game.now }
     requires finishing { IsFinishing (game_of game.now) (start (game_of game.now)) first.now }
     requires cost { best.now.cost ≡ total_cost (game_of game.now) (start (game_of game.now)) first.now }
     requires first { best.now.from ≡ None }
-    ensures { IfOk result (λ f. IsSearching game.now first.now budget 0 f best.now) }
+    ensures { IfOk result (λ f. (budget : ℕ) → IsSearching game.now first.now budget 0 f best.now) }
 {
     let words = ((game.graph().len() + 63) / 64) as u8;
     let mut frontier = Frontier {
-        rows: Rows::new(alloc, words),
+        rows: Positions::new(alloc, words),
         notes: Vec::new(alloc),
         queues: CostQueues::new(alloc),
     };
@@ -109,7 +105,7 @@ fn run<L: Ledger>(
         from: None,
         step: Step::Drop(0),
     };
-    let mut frontier = begin(alloc, game, first, &best, budget)?;
+    let mut frontier = begin(alloc, game, first, &best)?;
     for turn in 0..budget {
         match frontier.next(&best) {
             None => return Ok(Searched { frontier, best }),
@@ -240,9 +236,7 @@ fn search_uncounted<'g, L: Ledger>(
     blank: Blank,
 ) -> Result<Found<'g>, NoMemory>
     requires budget { budget ≤ 150000 }
-    requires name { blank.name ≡ L.name }
-    requires parts { blank.parts ≡ L.parts }
-    requires some { 0 < L.parts }
+    requires blank { Opens L.name L.parts blank }
     ensures { IfOk result (IsFound first.entry budget) }
 {
     let mut steps = Steps::<L>::new(blank);

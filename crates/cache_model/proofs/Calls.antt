@@ -1,10 +1,10 @@
 -- What the calls do, one step at a time.
 use Rattle.std.proofs.Common.{◌≡◌, ℕ, zero, suc, ◌+◌, ◌-◌, ◌*◌, ◌^◌, ◌≤◌, ◌<◌, Bool, true, false, cond, eqb, ◌&&◌, List, [], ◌∷◌, ◌++◌, ◌⊎◌, inl, inr, length, take, map, sym, refl, ap, ◌∙◌, subst, arith, append-nil, append_assoc}
-use Rattle.std.specs.Prelude.{Option, Some, None, slice_get, is_some, Result, Ok, Err, OnOk}
+use Rattle.std.specs.Prelude.{Option, Some, None, slice_get, is_some, Result, Ok, Err, OnOk, count_by}
 use Rattle.std.specs.Option.{option_map_or}
 use Rattle.std.specs.Map.{lookup, lookup_entry, remove_entry}
 use Rattle.std.proofs.lemmas.List.{take_all, map-append}
-use Rattle.std.proofs.lemmas.List.Sums.{count_by-le-length}
+use Rattle.std.proofs.lemmas.List.Sums.{sum_by-cons}
 use Rattle.std.proofs.lemmas.Bool.Decides.{nat_tests}
 use Rattle.std.specs.FinSet.{contains, retain}
 use Rattle.lru.specs.LruCache.{lru_cache, promoted, put_entries, displaced}
@@ -13,10 +13,11 @@ use Rattle.comp_graph.specs.Dags.{IsDag}
 use Rattle.comp_graph.specs.Games.{PebbleGame}
 use Rattle.comp_graph.proofs.Rising.{rising-in, rising-out, rising-zero, rising-past}
 use Rattle.pebble_rules.specs.Rules.{cost}
-use Rattle.cache_model.specs.CacheRuns.{is_load, is_store, loads_of, stores_of}
-use Rattle.cache_model.proofs.Pebbling.{none_past, has_dirty, costs_are_counted}
+use Rattle.pebble_rules.specs.Transfers.{loads, stores}
+use Rattle.pebble_rules.proofs.Transfers.{cost_weighs}
+use Rattle.cache_model.proofs.Pebbling.{none_past, has_dirty}
 use Rattle.pebble_rules.specs.declared.moves.Move.{Move}
-use Rattle.pebble_rules.specs.declared.moves.Move.TheVariants.{Load, Store, Compute}
+use Rattle.pebble_rules.specs.declared.moves.Move.TheVariants.{Load, Store, Compute, DropRed, DropBlue}
 use Rattle.pebble_rules.proofs.Possible.{true_or_false}
 use Rattle.cache_model.specs.Caches.{Line, Cache, eviction, without_last, with_room, placed, touched_at, touched, all_touched, with_computed, with_turn, with_turns, turns_of, empty_cache, is_dirty, with_outputs_stored, whole_run}
 use Rattle.cache_model.specs.Steps.{AreBelow}
@@ -320,11 +321,37 @@ pub run_moves_few : (g : PebbleGame) → g.dag.count ≤ 256 → (run : Cache) �
 unfolding whole_run
 run_moves_few g small run e = let few = moves_of_run g small in let same_moves = ap (λ (c : Cache). length c.moves) e in omega arith
 
--- the cost of moves whose loads and stores are counted
-pub counted_cost : (g : PebbleGame) (ms : List Move) (loads stores : ℕ) → loads ≡ loads_of ms → stores ≡ stores_of ms → cost g ms ≡ g.load * loads + g.store * stores
-counted_cost g ms loads stores e f =
-    costs_are_counted g ms ∙ ap (λ n. g.load * n + g.store * stores_of ms) (sym e) ∙ ap (λ n. g.load * loads + g.store * n) (sym f)
+-- ---- the loads and the stores
 
--- few moves have few loads and stores
-pub transfers_few : (ms : List Move) → length ms < 2 ^ 31 → loads_of ms + stores_of ms < 2 ^ 32
-transfers_few ms few = let loads = count_by-le-length is_load ms in let stores = count_by-le-length is_store ms in omega arith
+-- whether a move is a load
+abbrev pub is_load : Move → Bool
+is_load (Load v) = true
+is_load _ = false
+
+-- whether a move is a store
+abbrev pub is_store : Move → Bool
+is_store (Store v) = true
+is_store _ = false
+
+one_more : (p : Move → Bool) (m : Move) (ms : List Move) → count_by p (m ∷ ms) ≡ cond (p m) 1 0 + count_by p ms
+one_more p m ms = sum_by-cons (λ x. cond (p x) 1 0) m ms
+
+pub loads_counted : (ms : List Move) → count_by is_load ms ≡ loads ms
+loads_counted [] = refl
+loads_counted (Load v ∷ ms) = omega (arith, one_more is_load (Load v) ms, loads_counted ms)
+loads_counted (Store v ∷ ms) = omega (arith, one_more is_load (Store v) ms, loads_counted ms)
+loads_counted (Compute v ∷ ms) = omega (arith, one_more is_load (Compute v) ms, loads_counted ms)
+loads_counted (DropRed v ∷ ms) = omega (arith, one_more is_load (DropRed v) ms, loads_counted ms)
+loads_counted (DropBlue v ∷ ms) = omega (arith, one_more is_load (DropBlue v) ms, loads_counted ms)
+
+pub stores_counted : (ms : List Move) → count_by is_store ms ≡ stores ms
+stores_counted [] = refl
+stores_counted (Load v ∷ ms) = omega (arith, one_more is_store (Load v) ms, stores_counted ms)
+stores_counted (Store v ∷ ms) = omega (arith, one_more is_store (Store v) ms, stores_counted ms)
+stores_counted (Compute v ∷ ms) = omega (arith, one_more is_store (Compute v) ms, stores_counted ms)
+stores_counted (DropRed v ∷ ms) = omega (arith, one_more is_store (DropRed v) ms, stores_counted ms)
+stores_counted (DropBlue v ∷ ms) = omega (arith, one_more is_store (DropBlue v) ms, stores_counted ms)
+
+-- the cost of moves whose loads and stores are counted
+pub counted_cost : (g : PebbleGame) (ms : List Move) (l s : ℕ) → l ≡ loads ms → s ≡ stores ms → cost g ms ≡ g.load * l + g.store * s
+counted_cost g ms l s e f = cost_weighs g ms ∙ ap (λ n. g.load * n + g.store * stores ms) (sym e) ∙ ap (λ n. g.load * l + g.store * n) (sym f)

@@ -1,8 +1,7 @@
 -- The moves of the cache are a complete pebbling.
-use Rattle.std.proofs.Common.{◌≡◌, ℕ, zero, suc, ◌+◌, ◌-◌, ◌*◌, ◌≤◌, ◌<◌, Bool, true, false, cond, eqb, ◌&&◌, List, [], ◌∷◌, ◌++◌, ◌⊎◌, inl, inr, length, take, map, sym, refl, ap, ◌∙◌, subst, arith, length-take, length-append, mul-add, mul-one}
+use Rattle.std.proofs.Common.{◌≡◌, ℕ, zero, suc, ◌+◌, ◌-◌, ◌≤◌, ◌<◌, Bool, true, false, cond, eqb, ◌&&◌, List, [], ◌∷◌, ◌++◌, ◌⊎◌, inl, inr, length, take, map, sym, refl, ap, ◌∙◌, subst, arith, length-take, length-append}
 use Rattle.std.proofs.lemmas.List.{map-append}
-use Rattle.std.proofs.lemmas.List.Sums.{sum_by-cons}
-use Rattle.std.specs.Prelude.{Option, Some, None, slice_get, unwrap_or, count_by}
+use Rattle.std.specs.Prelude.{Option, Some, None, slice_get, unwrap_or}
 use Rattle.std.specs.Map.{lookup, lookup_entry, remove_entry}
 use Rattle.std.proofs.lemmas.Bool.Decides.{nat_tests}
 use Rattle.std.specs.FinSet.{contains, insert, remove, union, difference, retain, empty, contains-retain, nat_cmp-IsAntisymmetric}
@@ -14,14 +13,13 @@ use Rattle.comp_graph.proofs.Sets.{size_insert_le, size_remove}
 use Rattle.comp_graph.proofs.Rising.{length-rising, rising-in, rising-out, rising-zero}
 use Rattle.comp_graph.proofs.Live.{has_live_of}
 use Rattle.comp_graph.proofs.DagLaws.{live_before, live_output, live_vertex, degree_bounds}
-use Rattle.pebble_rules.specs.Rules.{start, IsMove, moved, cost, position_after, IsPebbling, IsComplete}
+use Rattle.pebble_rules.specs.Rules.{start, IsMove, moved, position_after, IsPebbling, IsComplete}
 use Rattle.pebble_rules.specs.declared.position.Position.{Position}
 use Rattle.pebble_rules.specs.declared.moves.Move.{Move}
-use Rattle.pebble_rules.specs.declared.moves.Move.TheVariants.{Load, Store, Compute, DropRed, DropBlue}
+use Rattle.pebble_rules.specs.declared.moves.Move.TheVariants.{Load, Store, Compute, DropRed}
 use Rattle.pebble_rules.proofs.Possible.{true_or_false, append_position, append_pebbling}
 use Rattle.cache_model.specs.Caches.{Line, Cache, empty_cache, without_last, with_room, placed, touched_at, touched, all_touched, with_computed, with_turn, with_turns, turns_of, is_dirty, with_outputs_stored, whole_run}
-use Rattle.cache_model.specs.CacheRuns.{is_load, is_store, loads_of, stores_of}
-use Rattle.cache_model.specs.Laws.{CachesArePebblings, CostsAreCounted, keys, AreApart, LinesFit, RoomIsKept, RoomIsMade}
+use Rattle.cache_model.specs.Laws.{CachesArePebblings, keys, AreApart, LinesFit, RoomIsKept, RoomIsMade}
 use Rattle.cache_model.proofs.Lines.{size_keys, found_in, missing_out, found_is, lookup_in, in_front, apart_front, front_of_front, lookup_front, get_in, last_keys, last_apart, lookup_at, removed_keys, removed_apart, removed_lookup, front_removed, length_removed}
 use Rattle.cache_model.proofs.Runs.{rising_mono, touches_in, touches_out, turns_in, turns_out}
 
@@ -604,35 +602,3 @@ room_is_made slots c some full = by_last (slice_get c.lines (slots - 1)) refl
     by_last : (o : Option Line) → slice_get c.lines (slots - 1) ≡ o → length (without_last slots c o).lines + 1 ≡ slots
     by_last None e = absurd (let past = none_past c.lines (slots - 1) e in omega arith)
     by_last (Some last) e = let cut = length-take (slots - 1) c.lines in omega arith
-
--- ---- the cost
-
-one_load : (a b l m s c : ℕ) → m ≡ 1 + l → c ≡ a * l + b * s → a + c ≡ a * m + b * s
-one_load a b l m s c more e = let sum = ap (λ n. a * n) more ∙ mul-add a 1 l in let one = mul-one a in omega arith
-
-one_store : (a b l s m c : ℕ) → m ≡ 1 + s → c ≡ a * l + b * s → b + c ≡ a * l + b * m
-one_store a b l s m c more e = let sum = ap (λ n. b * n) more ∙ mul-add b 1 s in let one = mul-one b in omega arith
-
--- a move that is no transfer is not counted
-no_transfer : (a b l m s t c : ℕ) → m ≡ 0 + l → t ≡ 0 + s → c ≡ a * l + b * s → 0 + c ≡ a * m + b * t
-no_transfer a b l m s t c more also e =
-    let loads = ap (λ n. a * n) (let same_loads : m ≡ l = omega arith in same_loads) in
-    let stores = ap (λ n. b * n) (let same_stores : t ≡ s = omega arith in same_stores) in
-    omega arith
-
-count : (p : Move → Bool) (m : Move) (ms : List Move) → count_by p (m ∷ ms) ≡ cond (p m) 1 0 + count_by p ms
-count p m ms = sum_by-cons (λ x. cond (p x) 1 0) m ms
-
-pub costs_are_counted : CostsAreCounted
-costs_are_counted g [] = omega arith
-costs_are_counted g (Load v ∷ ms) =
-    let stores : stores_of (Load v ∷ ms) ≡ stores_of ms = (let e = count is_store (Load v) ms in omega arith) in
-    one_load g.load g.store (loads_of ms) (loads_of (Load v ∷ ms)) (stores_of ms) (cost g ms) (count is_load (Load v) ms) (costs_are_counted g ms)
-    ∙ ap (λ n. g.load * loads_of (Load v ∷ ms) + g.store * n) (sym stores)
-costs_are_counted g (Store v ∷ ms) =
-    let loads : loads_of (Store v ∷ ms) ≡ loads_of ms = (let e = count is_load (Store v) ms in omega arith) in
-    one_store g.load g.store (loads_of ms) (stores_of ms) (stores_of (Store v ∷ ms)) (cost g ms) (count is_store (Store v) ms) (costs_are_counted g ms)
-    ∙ ap (λ n. g.load * n + g.store * stores_of (Store v ∷ ms)) (sym loads)
-costs_are_counted g (Compute v ∷ ms) = no_transfer g.load g.store _ _ _ _ (cost g ms) (count is_load (Compute v) ms) (count is_store (Compute v) ms) (costs_are_counted g ms)
-costs_are_counted g (DropRed v ∷ ms) = no_transfer g.load g.store _ _ _ _ (cost g ms) (count is_load (DropRed v) ms) (count is_store (DropRed v) ms) (costs_are_counted g ms)
-costs_are_counted g (DropBlue v ∷ ms) = no_transfer g.load g.store _ _ _ _ (cost g ms) (count is_load (DropBlue v) ms) (count is_store (DropBlue v) ms) (costs_are_counted g ms)

@@ -5,9 +5,9 @@ use Rattle.comp_graph.specs.Vertices.{Vertices, ◌∉◌, rising}
 use Rattle.comp_graph.specs.Dags.{IsDag, live_of, degree}
 use Rattle.comp_graph.specs.Games.{PebbleGame}
 use Rattle.pebble_rules.specs.Rules.{start, IsComplete, cost}
+use Rattle.pebble_rules.specs.Transfers.{loads, stores}
 use Rattle.pebble_rules.specs.declared.moves.Move.{Move}
 use Rattle.cache_model.specs.Caches.{Line, Cache, empty_cache, with_room, with_turns, whole_run}
-use Rattle.cache_model.specs.CacheRuns.{loads_of, stores_of}
 
 -- with more slots than the degree, the moves of the cache are a complete pebbling
 abbrev pub CachesArePebblings : Type 0
@@ -15,7 +15,7 @@ CachesArePebblings = (g : PebbleGame) → IsDag g.dag → degree g.dag < g.slots
 
 -- moves cost a load's weight for each load, and a store's for each store
 abbrev pub CostsAreCounted : Type 0
-CostsAreCounted = (g : PebbleGame) (ms : List Move) → cost g ms ≡ g.load * loads_of ms + g.store * stores_of ms
+CostsAreCounted = (g : PebbleGame) (ms : List Move) → cost g ms ≡ g.load * loads ms + g.store * stores ms
 
 -- the vertices of the lines
 abbrev pub keys : List Line → Vertices

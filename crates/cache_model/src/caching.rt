@@ -3,8 +3,9 @@ ghost use Rattle.std.specs.Prelude.{◌≡◌, ◌+◌, ◌*◌, ◌<◌, ◌≤
 ghost use Rattle.std.specs.Map.{lookup_entry};
 ghost use Rattle.comp_graph.specs.Games.{IsGame, game_of};
 ghost use Rattle.pebble_rules.specs.Rules.{start, IsComplete, cost};
+ghost use Rattle.pebble_rules.specs.Transfers.{loads, stores};
 ghost use Rattle.cache_model.specs.Caches.{empty_cache, eviction, with_room, placed, touched, with_turn, with_turns, turns_of, is_dirty, with_outputs_stored};
-ghost use Rattle.cache_model.specs.CacheRuns.{loads_of, stores_of, IsCacheRun};
+ghost use Rattle.cache_model.specs.CacheRuns.{IsCacheRun};
 ghost use Rattle.cache_model.specs.Steps.{cache_of, AreBelow};
 
 use comp_graph::{Game, NoMemory};
@@ -51,7 +52,7 @@ pub fn cached(alloc: Global, game: &Game) -> Result<CacheRun, NoMemory>
 // The number of loads.
 fn loads(moves: &[Move]) -> u32
     requires { length moves.now < 2 ^ 32 }
-    ensures { result ≡ loads_of moves.now }
+    ensures { result ≡ loads moves.now }
 {
     moves
         .iter()
@@ -62,7 +63,7 @@ fn loads(moves: &[Move]) -> u32
 // The number of stores.
 fn stores(moves: &[Move]) -> u32
     requires { length moves.now < 2 ^ 32 }
-    ensures { result ≡ stores_of moves.now }
+    ensures { result ≡ stores moves.now }
 {
     moves
         .iter()

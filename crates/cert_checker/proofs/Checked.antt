@@ -5,16 +5,16 @@ use Rattle.std.specs.Ordering.{is_lt}
 use Rattle.comp_graph.specs.Games.{PebbleGame}
 use Rattle.pebble_rules.specs.declared.position.Position.{Position as Place}
 use Rattle.pebble_rules.specs.Positions.{position_order}
-use Rattle.forced_bounds.specs.Lists.{IsIn}
+use Rattle.comp_graph.specs.Lists.{IsIn}
 use Rattle.potential_cert.specs.Order.{precedes}
 use Rattle.potential_cert.proofs.Order.{precedes_is_strict}
 use Rattle.potential_cert.specs.Places.{IsAt}
 use Rattle.potential_cert.specs.declared.tables.Row.{Row}
-use Rattle.potential_cert.specs.Table.{TableParts, IsRising}
+use Rattle.potential_cert.specs.Table.{TableParts, IsRising, StepsHold, FinishHolds}
 use Rattle.potential_cert.specs.GameTables.{IsTableOf}
 use Rattle.potential_cert.proofs.Rising.{rising_is_distinct}
 use Rattle.normal_steps.specs.Sound.{IsSound}
-use Rattle.cert_checker.specs.Refusals.{EachRow, IsFirstWithout, IsFirstFall, IsRefusal, Passes, PassesBefore, RefusedIsNoTable, StepsHold, FinishHolds}
+use Rattle.cert_checker.specs.Refusals.{EachRow, IsFirstWithout, IsFirstFall, IsRefusal, Passes, PassesBefore, RefusedIsNoTable}
 use Rattle.cert_checker.specs.declared.refusal.Reason.{Reason}
 use Rattle.cert_checker.specs.declared.refusal.Refused.{Refused}
 use Rattle.cert_checker.specs.declared.refusal.Reason.TheVariants.{Graph, Slots, Weights, Order, Position, Start, Cover, Step, Finish}
@@ -145,12 +145,12 @@ fall_refutes rows k fall rise =
     grind arith
 
 pub refused_is_no_table : RefusedIsNoTable
-refused_is_no_table g t Graph k is table = is.breaks.1 table.vertices
-refused_is_no_table g t Slots k is table = is.breaks.1 table.slots
-refused_is_no_table g t Weights k is table = is.breaks.1 (table.load, table.store)
-refused_is_no_table g t Order k is table = fall_refutes t.rows k is.breaks table.rise
-refused_is_no_table g t Position k is table = is.breaks.lacks (table.valid.sound is.breaks.row (at_in is.breaks.row k t.rows is.breaks.at))
-refused_is_no_table g t Start k is table = is.breaks.1 table.valid.begins
-refused_is_no_table g t Cover k is table = is.breaks
-refused_is_no_table g t Step k is table = is.breaks.lacks (table.valid.steps is.breaks.row (at_in is.breaks.row k t.rows is.breaks.at))
-refused_is_no_table g t Finish k is table = is.breaks.lacks (table.valid.finishes is.breaks.row (at_in is.breaks.row k t.rows is.breaks.at))
+refused_is_no_table g t Graph k is table = is.gives.1 table.vertices
+refused_is_no_table g t Slots k is table = is.gives.1 table.slots
+refused_is_no_table g t Weights k is table = is.gives.1 (table.load, table.store)
+refused_is_no_table g t Order k is table = fall_refutes t.rows k is.gives table.rise
+refused_is_no_table g t Position k is table = is.gives.lacks (table.valid.sound is.gives.row (at_in is.gives.row k t.rows is.gives.at))
+refused_is_no_table g t Start k is table = is.gives.1 table.valid.begins
+refused_is_no_table g t Cover k is table = is.gives
+refused_is_no_table g t Step k is table = is.gives.lacks (table.valid.steps is.gives.row (at_in is.gives.row k t.rows is.gives.at))
+refused_is_no_table g t Finish k is table = is.gives.lacks (table.valid.finishes is.gives.row (at_in is.gives.row k t.rows is.gives.at))

@@ -15,17 +15,17 @@ use Rattle.normal_steps.specs.Steps.{finish_cost, step_cost, stepped}
 use Rattle.normal_steps.specs.StepTests.{can_finish, legal_steps}
 use Rattle.normal_steps.proofs.StepTestLaws.{finish_is_tested, legal_steps_are_listed}
 use Rattle.forced_bounds.specs.Floor.{floor}
-use Rattle.forced_bounds.specs.Lists.{IsIn}
+use Rattle.comp_graph.specs.Lists.{IsIn}
 use Rattle.potential_cert.specs.declared.tables.Row.{Row}
 use Rattle.potential_cert.specs.GameTables.{IsTableOf}
 use Rattle.potential_cert.specs.Order.{precedes}
 use Rattle.potential_cert.specs.Places.{IsAt}
-use Rattle.potential_cert.specs.Table.{TableParts, HasRowWithin, IsRising, offer}
+use Rattle.potential_cert.specs.Table.{TableParts, HasRowWithin, IsRising, offer, FinishHolds, StartHolds, StepHolds, StepsHold}
 use Rattle.potential_cert.proofs.Order.{precedes_is_strict}
-use Rattle.potential_cert.proofs.Places.{at_contains, at_in, contains_at, in_at}
+use Rattle.potential_cert.proofs.Places.{in_at}
 use Rattle.cert_checker.specs.declared.refusal.Reason.{Reason}
 use Rattle.cert_checker.specs.declared.refusal.Reason.TheVariants as reasons
-use Rattle.cert_checker.specs.Refusals.{EachRow, FinishHolds, IsFirstFall, IsFirstWithout, IsRefusal, Passes, PassesBefore, StartHolds, StepHolds, StepsHold, TableOrRefusal}
+use Rattle.cert_checker.specs.Refusals.{EachRow, IsFirstFall, IsFirstWithout, IsRefusal, Passes, PassesBefore, TableOrRefusal}
 use Rattle.cert_checker.proofs.Checked.{before_finish, before_order, before_position, before_start, before_step, passes_all}
 
 -- ---- what holds or fails
@@ -126,8 +126,8 @@ steps_hold : (g : PebbleGame) → IsDag g.dag → (rows : List Row) (bound : ℕ
 steps_hold g dag rows bound r is_sound =
     let listed = legal_steps_are_listed g dag r.position is_sound.red_below in
     elim (each_step {P = StepHolds g rows bound r} (step_holds g rows bound r) (legal_steps g r.position)) [
-      | inl all ↦ inl (λ s can. let at = contains_at (legal_steps g r.position) s ((listed.legal s).1 can) in all s (at_in s at.0 (legal_steps g r.position) at.1))
-      | inr bad ↦ inr (λ all. let at = in_at bad.0 (legal_steps g r.position) bad.1 in bad.2 (all bad.0 ((listed.legal bad.0).0 (at_contains bad.0 at.0 (legal_steps g r.position) at.1))))
+      | inl all ↦ inl (λ s can. all s ((listed.legal s).1 can))
+      | inr bad ↦ inr (λ all. bad.2 (all bad.0 ((listed.legal bad.0).0 bad.1)))
     ]
 
 pub finish_holds : (g : PebbleGame) (bound : ℕ) (r : Row) → Decided (FinishHolds g bound r)
@@ -197,31 +197,31 @@ Outcome g t = IsTableOf g t ⊎ ((reason : Reason) × (k : ℕ) × IsRefusal g t
 by_finish : (g : PebbleGame) (t : TableParts) → PassesBefore g t 8 → Outcome g t
 by_finish g t before = elim (first_or_each (FinishHolds g t.bound) t.rows (λ r i. finish_holds g t.bound r)) [
   | inl all ↦ inl (passes_all g t before all)
-  | inr first ↦ inr (reasons.Finish, first.0, record { breaks = first.1; first = before })
+  | inr first ↦ inr (reasons.Finish, first.0, record { gives = first.1; first = before })
 ]
 
 by_step : (g : PebbleGame) → IsDag g.dag → (t : TableParts) → PassesBefore g t 7 → Outcome g t
 by_step g dag t before = elim (first_or_each (StepsHold g t.rows t.bound) t.rows (λ r i. let at = in_at r t.rows i in steps_hold g dag t.rows t.bound r (before reasons.Position (omega arith) at.0 r at.1))) [
   | inl all ↦ by_finish g t (before_finish g t before all)
-  | inr first ↦ inr (reasons.Step, first.0, record { breaks = first.1; first = before })
+  | inr first ↦ inr (reasons.Step, first.0, record { gives = first.1; first = before })
 ]
 
 by_start : (g : PebbleGame) → IsDag g.dag → (t : TableParts) → PassesBefore g t 5 → Outcome g t
 by_start g dag t before = elim (start_holds g t.rows t.bound) [
   | inl holds ↦ by_step g dag t (before_step g t before holds)
-  | inr not ↦ inr (reasons.Start, 0, record { breaks = (refl, not); first = before })
+  | inr not ↦ inr (reasons.Start, 0, record { gives = (refl, not); first = before })
 ]
 
 by_position : (g : PebbleGame) → IsDag g.dag → (t : TableParts) → PassesBefore g t 4 → Outcome g t
 by_position g dag t before = elim (first_or_each (λ r. IsSound g r.position) t.rows (λ r i. sound g r.position)) [
   | inl all ↦ by_start g dag t (before_start g t before all)
-  | inr first ↦ inr (reasons.Position, first.0, record { breaks = first.1; first = before })
+  | inr first ↦ inr (reasons.Position, first.0, record { gives = first.1; first = before })
 ]
 
 by_order : (g : PebbleGame) → IsDag g.dag → (t : TableParts) → PassesBefore g t 3 → Outcome g t
 by_order g dag t before = elim (rise_or_fall t.rows) [
   | inl rise ↦ by_position g dag t (before_position g t before rise)
-  | inr fall ↦ inr (reasons.Order, fall.0, record { breaks = fall.1; first = before })
+  | inr fall ↦ inr (reasons.Order, fall.0, record { gives = fall.1; first = before })
 ]
 
 -- the numbers: none is looked at before that of the vertices
@@ -238,9 +238,9 @@ before_weights g t vertices slots reasons.Slots less = slots
 before_weights g t vertices slots e less = absurd (omega arith)
 
 by_numbers : (g : PebbleGame) → IsDag g.dag → (t : TableParts) → Decided (t.vertices ≡ g.dag.count) → Decided (t.slots ≡ g.slots) → Decided ((t.load ≡ g.load) × (t.store ≡ g.store)) → Outcome g t
-by_numbers g dag t (inr not) slots weights = inr (reasons.Graph, 0, record { breaks = (refl, not); first = before_graph g t })
-by_numbers g dag t (inl vertices) (inr not) weights = inr (reasons.Slots, 0, record { breaks = (refl, not); first = before_slots g t vertices })
-by_numbers g dag t (inl vertices) (inl slots) (inr not) = inr (reasons.Weights, 0, record { breaks = (refl, not); first = before_weights g t vertices slots })
+by_numbers g dag t (inr not) slots weights = inr (reasons.Graph, 0, record { gives = (refl, not); first = before_graph g t })
+by_numbers g dag t (inl vertices) (inr not) weights = inr (reasons.Slots, 0, record { gives = (refl, not); first = before_slots g t vertices })
+by_numbers g dag t (inl vertices) (inl slots) (inr not) = inr (reasons.Weights, 0, record { gives = (refl, not); first = before_weights g t vertices slots })
 by_numbers g dag t (inl vertices) (inl slots) (inl weights) = by_order g dag t (before_order g t vertices slots weights)
 
 pub table_or_refusal : TableOrRefusal

@@ -6,7 +6,7 @@ use Rattle.potential_cert.specs.Places.{IsAt}
 use Rattle.potential_cert.specs.Table.{TableParts}
 use Rattle.cert_checker.specs.declared.refusal.Reason.{Reason}
 use Rattle.cert_checker.specs.declared.refusal.Reason.TheVariants as reasons
-use Rattle.cert_checker.specs.Refusals.{Breaks, IsFirstFall, IsFirstWithout, IsRefusal, Passes, RefusalIsOne, place_of_reason}
+use Rattle.cert_checker.specs.Refusals.{GivesReason, IsFirstFall, IsFirstWithout, IsRefusal, Passes, RefusalIsOne, place_of_reason}
 use Rattle.cert_checker.proofs.Checked.{fall_refutes}
 
 -- ---- one row
@@ -46,7 +46,7 @@ one_fall rows j k a b = elim (compared j k) [
   | inr (inr more) ↦ fall_before rows k j b a more
 ]
 
-one_row : (g : PebbleGame) (t : TableParts) (reason : Reason) (j k : ℕ) → Breaks g t reason j → Breaks g t reason k → j ≡ k
+one_row : (g : PebbleGame) (t : TableParts) (reason : Reason) (j k : ℕ) → GivesReason g t reason j → GivesReason g t reason k → j ≡ k
 one_row g t reasons.Graph j k a b = a.0 ∙ sym b.0
 one_row g t reasons.Slots j k a b = a.0 ∙ sym b.0
 one_row g t reasons.Weights j k a b = a.0 ∙ sym b.0
@@ -60,7 +60,7 @@ one_row g t reasons.Finish j k a b = one_lack _ t.rows j k a b
 -- ---- one reason
 
 -- a reason that a table gives is none that it passes
-breaks_refute : (g : PebbleGame) (t : TableParts) (reason : Reason) (k : ℕ) → Breaks g t reason k → Passes g t reason → ⊥
+breaks_refute : (g : PebbleGame) (t : TableParts) (reason : Reason) (k : ℕ) → GivesReason g t reason k → Passes g t reason → ⊥
 breaks_refute g t reasons.Graph k is passes = is.1 passes
 breaks_refute g t reasons.Slots k is passes = is.1 passes
 breaks_refute g t reasons.Weights k is passes = is.1 passes
@@ -97,12 +97,12 @@ at_its_place reasons.Finish = refl
 
 one_reason : (g : PebbleGame) (t : TableParts) (a b : Reason) (j k : ℕ) → IsRefusal g t a j → IsRefusal g t b k → a ≡ b
 one_reason g t a b j k is other = elim (compared (place_of_reason a) (place_of_reason b)) [
-  | inl less ↦ absurd (breaks_refute g t a j is.breaks (other.first a less))
+  | inl less ↦ absurd (breaks_refute g t a j is.gives (other.first a less))
   | inr (inl same) ↦ sym (at_its_place a) ∙ ap reason_at same ∙ at_its_place b
-  | inr (inr more) ↦ absurd (breaks_refute g t b k other.breaks (is.first b more))
+  | inr (inr more) ↦ absurd (breaks_refute g t b k other.gives (is.first b more))
 ]
 
 pub refusal_is_one : RefusalIsOne
 refusal_is_one g t a b j k is other =
     let same = one_reason g t a b j k is other in
-    (same, one_row g t b j k (subst (λ r. Breaks g t r j) same is.breaks) other.breaks)
+    (same, one_row g t b j k (subst (λ r. GivesReason g t r j) same is.gives) other.gives)

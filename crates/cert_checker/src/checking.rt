@@ -2,10 +2,10 @@
 ghost use Rattle.std.specs.Prelude.{◌≡◌, ◌≤◌, length, IfOk, IfErr, IfSome, IfNone, MatchOption};
 ghost use Rattle.comp_graph.specs.Games.{game_of};
 ghost use Rattle.normal_steps.specs.Sound.{IsSound};
-ghost use Rattle.potential_cert.specs.Table.{IsRising};
+ghost use Rattle.potential_cert.specs.Table.{IsRising, StepsHold, FinishHolds};
 ghost use Rattle.potential_cert.specs.Order.{precedes};
 ghost use Rattle.potential_cert.specs.GameTables.{IsTableOf};
-ghost use Rattle.cert_checker.specs.Refusals.{EachRow, IsFirstWithout, IsFirstFall, IsRefusal, PassesBefore, StepsHold, FinishHolds};
+ghost use Rattle.cert_checker.specs.Refusals.{EachRow, IsFirstWithout, IsFirstFall, IsRefusal, PassesBefore};
 
 use crate::refusal::{Reason, Refused};
 use crate::row_tests::{finish_holds, is_sound, start_holds, steps_hold};

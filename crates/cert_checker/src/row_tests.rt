@@ -4,9 +4,8 @@ ghost use Rattle.std.specs.FinSet as set;
 ghost use Rattle.comp_graph.specs.Games.{game_of};
 ghost use Rattle.normal_steps.specs.Steps.{IsStep};
 ghost use Rattle.normal_steps.specs.Sound.{IsSound};
-ghost use Rattle.potential_cert.specs.Table.{HasRowWithin, IsRising};
+ghost use Rattle.potential_cert.specs.Table.{HasRowWithin, IsRising, StartHolds, StepHolds, StepsHold, FinishHolds};
 ghost use Rattle.potential_cert.specs.Order.{precedes};
-ghost use Rattle.cert_checker.specs.Refusals.{StartHolds, StepHolds, StepsHold, FinishHolds};
 
 use comp_graph::{Game, VertexSet};
 use forced_bounds::floor;

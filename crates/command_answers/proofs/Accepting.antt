@@ -5,7 +5,7 @@ use Rattle.kernel_ast.specs.declared.element.Fault.{Fault}
 use Rattle.kernel_ast.specs.KernelGraph.{graph_of}
 use Rattle.kernel_ast.specs.KernelParts.{KernelParts}
 use Rattle.kernel_ast.specs.Machine.{run_all}
-use Rattle.kernel_ast.specs.Meaning.{meaning, shape_fault, fault_of, numbered, numbered_input}
+use Rattle.kernel_ast.specs.Meaning.{kernel_meaning, shape_fault, fault_of, numbered, numbered_input}
 use Rattle.kernel_ast.specs.Places.{fault}
 use Rattle.kernel_ast.specs.Steps.{and_then}
 use Rattle.kernel_ast.specs.Walk.{walk_all}
@@ -34,10 +34,10 @@ no_fault_with_graph (Ok a) f b h = refl
 no_fault_with_graph (Err d) f b h = absurd (cc)
 
 pub shape_fault_from_graph : (k : KernelParts) (f : Fault) → graph_of k ≡ Err f → shape_fault k ≡ Some f
-shape_fault_from_graph k f h = fault_without_graph (meaning k) _ f h
+shape_fault_from_graph k f h = fault_without_graph (kernel_meaning k) _ f h
 
 pub faultless_from_graph : (k : KernelParts) (graph : GraphParts) → graph_of k ≡ Ok graph → shape_fault k ≡ None
-faultless_from_graph k graph h = no_fault_with_graph (meaning k) _ graph h
+faultless_from_graph k graph h = no_fault_with_graph (kernel_meaning k) _ graph h
 
 -- ---- the laws
 

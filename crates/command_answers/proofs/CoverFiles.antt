@@ -15,7 +15,7 @@ use Rattle.cover_cert.proofs.CoverDecided.{cover_table_or_refusal}
 use Rattle.cover_cert.proofs.CoverReadable.{cover_spelled_or_not}
 use Rattle.cover_cert.proofs.Checked.{cover_refusal_is_one, refused_is_no_cover_table}
 use Rattle.cover_cert.proofs.OneCoverSpelling.{cover_spelling_is_one}
-use Rattle.desk_io.specs.Known.{TellsFile, file_items}
+use Rattle.desk_io.specs.Known.{ToldFile, TellsFile, file_items}
 use Rattle.forced_bounds.proofs.Below.{floor_is_below_plays}
 use Rattle.kernel_ast.specs.KernelParts.{KernelParts}
 use Rattle.normal_steps.proofs.PlanMoves.{plays_are_pebblings}
@@ -36,7 +36,7 @@ use Rattle.command_answers.proofs.ToldBytes.{bytes_of, told_bytes, told_more_fil
 -- ---- the answer that is made
 
 -- a covered table file of the game certifies its bound: it is at most the cost of each complete pebbling
-pub is_cover_certified : (slots : ℕ) (text : List ℕ) (file : Option (Option (List ℕ))) (kernel : KernelParts) (graph : GraphParts) (bytes : List ℕ) (t : CoverTableParts)
+pub is_cover_certified : (slots : ℕ) (text : List ℕ) (file : ToldFile) (kernel : KernelParts) (graph : GraphParts) (bytes : List ℕ) (t : CoverTableParts)
     (status : Status) (printed : List ℕ) (table : Option (List ℕ)) → status ≡ Done → printed ≡ accepted_text t.bound → table ≡ None
     → IsCoverCertificate (played_on graph slots unit_weights) bytes t → degree (dag_of graph) < slots → IsAccepted text kernel graph → TellsFile file bytes
     → IsCoverCertified slots text file status printed table
@@ -63,7 +63,7 @@ is_unit_game game weights = λ i. game_of (record { graph = game.graph; slots = 
 
 -- what the answer to a file says
 abbrev pub AnswersCoverFile : ℕ → GraphParts → List ℕ → Answer → Type 0
-AnswersCoverFile slots graph bytes answer = (text : List ℕ) (kernel : KernelParts) (file : Option (Option (List ℕ))) → IsAccepted text kernel graph → TellsFile file bytes
+AnswersCoverFile slots graph bytes answer = (text : List ℕ) (kernel : KernelParts) (file : ToldFile) → IsAccepted text kernel graph → TellsFile file bytes
     → Meets (CoverChecks slots text file) answer
 
 -- the answer where the file is a covered table file of the game
@@ -101,14 +101,14 @@ no_room bytes long t file = let short = file.short in omega (arith, long, short)
 -- what answers the bytes of a file answers what was read of it
 pub of_whole : {E : Type 0} (r : Result Answer E) (slots : ℕ) (graph : GraphParts) (file : FileBytes) (held : Vec ℕ Global) (bytes : List ℕ)
     → file ≡ Whole held → bytes ≡ held.items → IfOk r (AnswersCoverFile slots graph bytes)
-    → IfOk r (λ a. (text : List ℕ) (kernel : KernelParts) (told : Option (Option (List ℕ))) → IsAccepted text kernel graph → IsFileOf told 20000000 file → Meets (CoverChecks slots text told) a)
+    → IfOk r (λ a. (text : List ℕ) (kernel : KernelParts) (told : ToldFile) → IsAccepted text kernel graph → IsFileOf told 20000000 file → Meets (CoverChecks slots text told) a)
 of_whole (Ok a) slots graph file held bytes is same h = λ text kernel told accepted of_file.
     h text kernel told accepted (subst (TellsFile told) (sym same) (subst (IsFileOf told 20000000) is of_file).0)
 of_whole (Err e) slots graph file held bytes is same h = tt
 
 pub of_long : {E : Type 0} (r : Result Answer E) (slots : ℕ) (graph : GraphParts) (file : FileBytes) → file ≡ TooLong
     → IfOk r (λ a. a.status ≡ Refused) → IfOk r (λ a. a.text.items ≡ refused_text 1 0) → IfOk r (λ a. file_items a.table ≡ None) → degree (dag_of graph) < slots
-    → IfOk r (λ a. (text : List ℕ) (kernel : KernelParts) (told : Option (Option (List ℕ))) → IsAccepted text kernel graph → IsFileOf told 20000000 file → Meets (CoverChecks slots text told) a)
+    → IfOk r (λ a. (text : List ℕ) (kernel : KernelParts) (told : ToldFile) → IsAccepted text kernel graph → IsFileOf told 20000000 file → Meets (CoverChecks slots text told) a)
 of_long {E} (Ok a) slots graph file is ends line none room = λ text kernel told accepted of_file.
     let more = told_more_file told 20000000 (subst (IsFileOf told 20000000) is of_file) in
     not_certified {E = E} (Ok a) slots graph more.0 1 0 ends line none (no_table (no_room more.0 more.2) refl refl) room text kernel told accepted more.1
@@ -149,7 +149,7 @@ abbrev pub AreOneAnswer : Status → Status → List ℕ → List ℕ → Option
 AreOneAnswer s t p q a b = (s ≡ t) × (p ≡ q) × (a ≡ b)
 
 -- a file has one certificate, whose bound is printed
-one_bound : (slots : ℕ) (text : List ℕ) (file : Option (Option (List ℕ))) (held : Option (List ℕ)) (s t : Status) (p q : List ℕ) (a b : Option (List ℕ))
+one_bound : (slots : ℕ) (text : List ℕ) (file : ToldFile) (held : Option (List ℕ)) (s t : Status) (p q : List ℕ) (a b : Option (List ℕ))
     → file ≡ Some held → IsCoverCertified slots text file s p a → IsCoverCertified slots text file t q b → AreOneAnswer s t p q a b
 one_bound slots text file held s t p q a b told h k =
     let here = moved (λ g bytes. IsCoverCertificate g bytes h.certificate) slots text h.kernel k.kernel h.graph k.graph h.bytes k.bytes h.accepted k.accepted (told_bytes file held h.bytes k.bytes told h.held k.held) h.certifies in
@@ -157,7 +157,7 @@ one_bound slots text file held s t p q a b told h k =
     (h.ends ∙ sym k.ends, h.line ∙ ap (λ (c : CoverTableParts). accepted_text c.bound) same ∙ sym k.line, h.none ∙ sym k.none)
 
 -- or is refused for one reason, which is printed
-one_reason : (slots : ℕ) (text : List ℕ) (file : Option (Option (List ℕ))) (held : Option (List ℕ)) (s t : Status) (p q : List ℕ) (a b : Option (List ℕ))
+one_reason : (slots : ℕ) (text : List ℕ) (file : ToldFile) (held : Option (List ℕ)) (s t : Status) (p q : List ℕ) (a b : Option (List ℕ))
     → file ≡ Some held → IsCoverRefusedFile slots text file s p a → IsCoverRefusedFile slots text file t q b → AreOneAnswer s t p q a b
 one_reason slots text file held s t p q a b told h k =
     let here = moved (λ g bytes. IsCoverRefused g bytes h.reason h.row) slots text h.kernel k.kernel h.graph k.graph h.bytes k.bytes h.accepted k.accepted (told_bytes file held h.bytes k.bytes told h.held k.held) h.refused in
@@ -166,7 +166,7 @@ one_reason slots text file held s t p q a b told h k =
     (h.ends ∙ sym k.ends, h.line ∙ line ∙ sym k.line, h.none ∙ sym k.none)
 
 -- a text and a file that is told have at most one answer
-pub cover_check_is_one : (slots : ℕ) (text : List ℕ) (file : Option (Option (List ℕ))) (held : Option (List ℕ)) (s t : Status) (p q : List ℕ) (a b : Option (List ℕ))
+pub cover_check_is_one : (slots : ℕ) (text : List ℕ) (file : ToldFile) (held : Option (List ℕ)) (s t : Status) (p q : List ℕ) (a b : Option (List ℕ))
     → file ≡ Some held → CoverChecks slots text file s p a → CoverChecks slots text file t q b → AreOneAnswer s t p q a b
 cover_check_is_one slots text file held s t p q a b told (inl h) (inl k) = one_bound slots text file held s t p q a b told h k
 cover_check_is_one slots text file held s t p q a b told (inl h) (inr k) =
@@ -198,10 +198,10 @@ cover_files_are_judged g dag bytes = elim (cases_lt 20000000 (length bytes)) [
 ]
 
 -- there is an answer of `covercheck`
-abbrev pub HasCoverCheck : ℕ → List ℕ → Option (Option (List ℕ)) → Type 0
+abbrev pub HasCoverCheck : ℕ → List ℕ → ToldFile → Type 0
 HasCoverCheck slots text file = (status : Status) × (printed : List ℕ) × (table : Option (List ℕ)) × CoverChecks slots text file status printed table
 
-answer_by : (slots : ℕ) (text bytes : List ℕ) (file : Option (Option (List ℕ))) (kernel : KernelParts) (graph : GraphParts) → IsAccepted text kernel graph
+answer_by : (slots : ℕ) (text bytes : List ℕ) (file : ToldFile) (kernel : KernelParts) (graph : GraphParts) → IsAccepted text kernel graph
     → degree (dag_of graph) < slots → TellsFile file bytes → CoverFileIsJudged (played_on graph slots unit_weights) bytes → HasCoverCheck slots text file
 answer_by slots text bytes file kernel graph accepted room held (inl h) = (
   Done,
@@ -230,7 +230,7 @@ answer_by slots text bytes file kernel graph accepted room held (inr h) = (
 )
 
 -- an accepted text with enough slots, and a file that is not missing, have an answer
-pub cover_check_is_some : (slots : ℕ) (text : List ℕ) (file : Option (Option (List ℕ))) (kernel : KernelParts) (graph : GraphParts) → (file ≡ Some None → ⊥) → IsAccepted text kernel graph
+pub cover_check_is_some : (slots : ℕ) (text : List ℕ) (file : ToldFile) (kernel : KernelParts) (graph : GraphParts) → (file ≡ Some None → ⊥) → IsAccepted text kernel graph
     → degree (dag_of graph) < slots → HasCoverCheck slots text file
 cover_check_is_some slots text file kernel graph there accepted room =
     let bytes = bytes_of file there in

@@ -1,8 +1,8 @@
 -- What `exec` answers to the values of a file.
-use Rattle.std.proofs.Common.{◌≡◌, ◌≢◌, ◌+◌, ℕ, suc, ℤ, List, [], ◌∷◌, ◌++◌, length, map, Option, None, Result, Ok, Err, IfOk, inl, inr, refl, sym, ap, ◌∙◌, subst}
+use Rattle.std.proofs.Common.{◌≡◌, ◌≢◌, ◌+◌, ℕ, suc, ℤ, List, [], ◌∷◌, ◌++◌, length, map, None, Result, Ok, Err, IfOk, inl, inr, refl, sym, ap, ◌∙◌, subst}
 use Rattle.std.specs.Prelude.{Vec}
 use Rattle.std.specs.declared.alloc.Global.{Global}
-use Rattle.desk_io.specs.Known.{TellsFile, TellsMoreFile, file_items}
+use Rattle.desk_io.specs.Known.{ToldFile, TellsFile, TellsMoreFile, file_items}
 use Rattle.plan_report.specs.OutputsText.{outputs_text}
 use Rattle.scratch_machine.specs.declared.code.OutWord.{OutWord}
 use Rattle.scratch_machine.specs.declared.machine.Ran.{Ran}
@@ -51,7 +51,7 @@ outputs_counted code values ending e =
 
 -- an answer to each text that reads as the code, where the file holds these bytes
 abbrev AnswersCode : CodeParts → List ℕ → Answer → Type 0
-AnswersCode code bytes a = (text : List ℕ) (file : Option (Option (List ℕ))) → IsCodeInput text code → TellsFile file bytes → Meets (Executes text file) a
+AnswersCode code bytes a = (text : List ℕ) (file : ToldFile) → IsCodeInput text code → TellsFile file bytes → Meets (Executes text file) a
 
 is_wrong : (code : CodeParts) (bytes : List ℕ) (a : Answer) → a.status ≡ Values → a.text.items ≡ values_fault_text → file_items a.table ≡ None → HoldsNone (length code.inputs) bytes → AnswersCode code bytes a
 is_wrong code bytes a is line none wrong text file input held =
@@ -99,7 +99,7 @@ run_to_end (Err e) code bytes values ran is lines none given end = tt
 
 -- an answer to each text that reads as the code and each file that was read
 abbrev AnswersRead : CodeParts → FileBytes → Answer → Type 0
-AnswersRead code file a = (text : List ℕ) (held : Option (Option (List ℕ))) → IsCodeInput text code → IsFileOf held 1000000 file → Meets (Executes text held) a
+AnswersRead code file a = (text : List ℕ) (held : ToldFile) → IsCodeInput text code → IsFileOf held 1000000 file → Meets (Executes text held) a
 
 -- what answers the bytes of a file answers what was read of it
 pub of_whole : {E : Type 0} (r : Result Answer E) (code : CodeParts) (file : FileBytes) (held : Vec ℕ Global) (bytes : List ℕ) → file ≡ Whole held → bytes ≡ held.items

@@ -1,9 +1,11 @@
 -- What the cache does and what a search finds beside it answer the text; there is one such answer.
 use Rattle.std.proofs.Common.{◌≡◌, ℕ, ◌≤◌, ◌<◌, List, Option, Some, refl, sym, ap, ◌∙◌, subst, arith}
 use Rattle.cache_model.specs.Caches.{whole_run}
-use Rattle.cache_model.specs.CacheRuns.{IsCacheRun, loads_of, stores_of}
+use Rattle.cache_model.specs.CacheRuns.{IsCacheRun}
 use Rattle.cache_model.specs.declared.caching.CacheRun.{CacheRun}
-use Rattle.cache_model.proofs.Pebbling.{caches_are_pebblings, costs_are_counted}
+use Rattle.cache_model.proofs.Pebbling.{caches_are_pebblings}
+use Rattle.pebble_rules.specs.Transfers.{loads, stores}
+use Rattle.pebble_rules.proofs.Transfers.{cost_weighs}
 use Rattle.comp_graph.specs.Dags.{degree}
 use Rattle.comp_graph.specs.Graphs.{GraphParts, dag_of}
 use Rattle.comp_graph.specs.Games.{GameParts, IsGame, game_of}
@@ -39,7 +41,7 @@ run_completes asked graph game = caches_are_pebblings (played_for (planning_besi
 run_costs : (asked : Caching) (graph : GraphParts) (numbers : PlanNumbers)
     → moves_cost (played_for (planning_beside asked) graph) (run_asked asked graph).moves ≡ (facts_beside asked graph numbers).cost
 run_costs asked graph numbers =
-    let counted = costs_are_counted (played_for (planning_beside asked) graph) (run_asked asked graph).moves in
+    let counted = cost_weighs (played_for (planning_beside asked) graph) (run_asked asked graph).moves in
     omega (arith, counted)
 
 -- what was counted of a run is printed as the definition has it
@@ -47,7 +49,7 @@ run_printed : (asked : Caching) (game : GameParts) (run : CacheRun) (numbers : P
     → cache_facts run.loads run.stores run.hits numbers ≡ facts_beside asked game.graph numbers
 run_printed asked game run numbers played is =
     let whole = ap (λ g. whole_run (game_of g)) played in
-    λ i. cache_facts ((is.loads ∙ ap (λ c. loads_of c.moves) whole) i) ((is.stores ∙ ap (λ c. stores_of c.moves) whole) i) ((is.hits ∙ ap (λ c. c.hits) whole) i) numbers
+    λ i. cache_facts ((is.loads ∙ ap (λ c. loads c.moves) whole) i) ((is.stores ∙ ap (λ c. stores c.moves) whole) i) ((is.hits ∙ ap (λ c. c.hits) whole) i) numbers
 
 -- ---- the answer
 

@@ -1,27 +1,20 @@
 -- What the search finds from the first plan of a game is an answer.
-use Rattle.std.proofs.Common.{◌≡◌, ℕ, ℤ, ◌≤◌, ◌<◌, ◌==◌, ◌↔◌, false, List, length, map, Some, Result, Ok, Err, inl, inr, refl, sym, ap, ◌∙◌, subst, arith}
+use Rattle.std.proofs.Common.{◌≡◌, ℕ, ◌≤◌, ◌<◌, ◌==◌, ◌↔◌, false, List, length, Some, Result, Ok, Err, inl, inr, refl, sym, ap, ◌∙◌, subst, arith}
 use Rattle.std.specs.Prelude.{IfOk}
 use Rattle.std.proofs.lemmas.Bool.{cases_eq, eqb-true, eq-eqb, ne_eqb, false≢true}
-use Rattle.comp_graph.specs.declared.node.Output.{Output}
 use Rattle.comp_graph.specs.Dags.{degree}
 use Rattle.comp_graph.specs.Graphs.{GraphParts, IsGraph, dag_of}
 use Rattle.comp_graph.specs.Games.{GameParts, IsGame, game_of}
 use Rattle.comp_graph.proofs.GraphLaws.{IsDag-dag_of}
 use Rattle.pebble_rules.specs.declared.moves.Move.{Move}
 use Rattle.pebble_rules.specs.Rules.{start, IsComplete, cost as moves_cost}
-use Rattle.scratch_machine.specs.declared.code.OutWord.{OutWord}
-use Rattle.scratch_machine.specs.Values.{output_values}
-use Rattle.scratch_machine.specs.CodePlays.{loads, stores}
 use Rattle.kernel_ast.specs.KernelParts.{KernelParts}
-use Rattle.three_address.proofs.KernelGraphLaws.{outputs-graph_of}
-use Rattle.kernel_parser.proofs.OneText.{kernels_are_well_formed}
 use Rattle.normal_steps.specs.Plans.{PlanParts, IsPlan}
 use Rattle.normal_steps.specs.Steps.{IsFinishing, total_cost}
 use Rattle.normal_steps.proofs.Simulation.{plays_from_start_cost_no_more}
 use Rattle.first_plan.specs.FirstPlan.{first_steps}
 use Rattle.first_plan.proofs.Turns.{first_plan_finishes}
-use Rattle.slot_alloc.specs.Emitted.{layout_after_all, first_layout}
-use Rattle.slot_alloc.specs.PlanCode.{plan_moves, plan_code, IsPlanCode}
+use Rattle.slot_alloc.specs.PlanCode.{plan_moves, plan_code}
 use Rattle.slot_alloc.proofs.Right.{plan_code_is_right}
 use Rattle.forced_bounds.proofs.Below.{floor_is_below_plays}
 use Rattle.forced_bounds.proofs.Ends.{floor_of_finish}
@@ -38,10 +31,11 @@ use Rattle.command_words.specs.declared.commands.Planning.{Planning}
 use Rattle.command_answers.specs.declared.status.Status.{Status}
 use Rattle.command_answers.specs.Accepted.{IsAccepted}
 use Rattle.command_answers.specs.MadeAnswers.{is_optimal, numbers_of, printed_of}
-use Rattle.command_answers.specs.PlanAnswers.{PlanNumbers, PrintedPlan, RunsRight, IsShown, IsAnswer, IsPlanned, first_plan_of, plan_asked, plan_text, verdict_status}
+use Rattle.command_answers.specs.PlanAnswers.{PlanNumbers, PrintedPlan, IsShown, IsAnswer, IsPlanned, first_plan_of, plan_asked, plan_text, verdict_status}
 use Rattle.command_answers.specs.PlayedGames.{HasPebbling, game_asked, played_for}
 use Rattle.command_answers.proofs.Accepting.{accepted_labels}
-use Rattle.command_answers.proofs.FirstPlans.{labels_kept, first_plan_valid}
+use Rattle.command_answers.proofs.FirstPlans.{first_plan_valid}
+use Rattle.command_answers.proofs.RightCodes.{right_code}
 
 -- ---- the plan that the search finds
 
@@ -80,29 +74,6 @@ plan_is_possible asked graph game =
     let plan = plan_asked asked graph in
     let right = plan_code_is_right plan game (found_plan_valid asked graph game) in
     record { moves = plan_moves plan; complete = right.complete; costs = right.costs }
-
--- ---- the code of a plan
-
--- the code of a plan for the graph of a kernel gives the source's outputs
-pub runs_right : (plan : PlanParts) (text : List ℕ) (kernel : KernelParts) → IsPlanCode plan → IsAccepted text kernel plan.game.graph
-    → (values : List ℤ) → length values ≡ length plan.game.graph.names → RunsRight kernel plan.game.weights (plan_code plan) plan.total values
-runs_right plan text kernel right accepted values count =
-    let ran = right.runs values count in
-    let weighs = right.weighs in
-    record {
-      ending = record {
-        outputs = output_values plan.game.graph ran.value;
-        loads = loads (plan_moves plan);
-        stores = stores (plan_moves plan);
-      };
-      runs = ran.runs;
-      same = sym (outputs-graph_of kernel plan.game.graph values ran.value (kernels_are_well_formed text kernel accepted.reads) accepted.evaluated count ran.values);
-      counted = weighs;
-    }
-
--- and has the labels of its output elements
-pub plan_labels : (plan : PlanParts) → map (λ (o : OutWord). o.label) (plan_code plan).outputs ≡ map (λ (o : Output). o.label) plan.game.graph.outputs
-plan_labels plan = labels_kept (layout_after_all (first_layout plan.game.graph plan.game.slots) (plan_moves plan)) plan.game.graph.outputs
 
 -- ---- the answer
 
@@ -165,17 +136,10 @@ pub found_answers : (asked : Planning) (graph : GraphParts) (text : List ℕ) (k
     → IsAnswer kernel graph asked (printed_with asked graph table) table
 found_answers asked graph text kernel table game accepted is =
     let plan = plan_asked asked graph in
-    let right = plan_code_is_right plan game (found_plan_valid asked graph game) in
-    let names = accepted_labels accepted in
     record {
       shown = found_shown asked graph table game is;
       code = refl;
-      code_slots = refl;
-      code_bounds = right.valid;
-      code_inputs = names.inputs;
-      code_outputs = plan_labels plan ∙ names.outputs;
-      right = λ values count. runs_right plan text kernel right accepted values (count ∙ ap length (sym names.inputs));
-      played = record { moves = plan_moves plan; complete = right.complete; costs = right.costs; plays = right.plays };
+      right = right_code plan text kernel (plan_code_is_right plan game (found_plan_valid asked graph game)) accepted;
     }
 
 -- ---- what the program found

@@ -11,6 +11,7 @@ pub mod FoundParts
 pub mod FoundPlans
 pub mod FoundTrials
 pub mod KernelLabels
+pub mod OneChecks
 pub mod OneCovers
 pub mod OneParts
 pub mod OnePlans

@@ -1,11 +1,11 @@
 -- What `judge` and `tidy` answer to what a file holds.
 use Rattle.std.proofs.Common.{◌≡◌, ◌<◌, ◌≤◌, ℕ, List, length, Result, Ok, Err, IfOk, inl, sym, ◌∙◌, subst, arith}
-use Rattle.std.specs.Prelude.{None, Option, Vec}
+use Rattle.std.specs.Prelude.{None, Vec}
 use Rattle.std.specs.declared.alloc.Global.{Global}
 use Rattle.comp_graph.specs.Dags.{degree}
 use Rattle.comp_graph.specs.Games.{GameParts, unit_weights}
 use Rattle.comp_graph.specs.Graphs.{dag_of}
-use Rattle.desk_io.specs.Known.{file_items}
+use Rattle.desk_io.specs.Known.{ToldFile, file_items}
 use Rattle.kernel_ast.specs.KernelParts.{KernelParts}
 use Rattle.line_texts.specs.BadLines.{IsBadLine}
 use Rattle.normal_steps.specs.Plans.{PlanParts}
@@ -55,25 +55,25 @@ is_judged game weights = λ i. record { graph = game.graph; slots = game.slots; 
 module _ (game : GameParts) (weights : game.weights ≡ unit_weights) (room : degree (dag_of game.graph) < game.slots) (file : FileBytes) where
   -- what an answer of `judge` says
   abbrev pub JudgesFile : Answer → Type 0
-  JudgesFile answer = (text : List ℕ) (kernel : KernelParts) (held : Option (Option (List ℕ))) → IsAccepted text kernel game.graph → IsFileOf held 20000000 file → Meets (Judges game.slots text held) answer
+  JudgesFile answer = (text : List ℕ) (kernel : KernelParts) (held : ToldFile) → IsAccepted text kernel game.graph → IsFileOf held 20000000 file → Meets (Judges game.slots text held) answer
 
   -- what an answer of `tidy` says
   abbrev pub TidiesFile : Answer → Type 0
-  TidiesFile answer = (text : List ℕ) (kernel : KernelParts) (held : Option (Option (List ℕ))) → IsAccepted text kernel game.graph → IsFileOf held 20000000 file → Meets (Tidies game.slots text held) answer
+  TidiesFile answer = (text : List ℕ) (kernel : KernelParts) (held : ToldFile) → IsAccepted text kernel game.graph → IsFileOf held 20000000 file → Meets (Tidies game.slots text held) answer
 
   -- the file holds this
   abbrev pub Holds : FilePlay → Type 0
-  Holds play = (held : Option (Option (List ℕ))) → IsFileOf held 20000000 file → IsFilePlay game held play
+  Holds play = (held : ToldFile) → IsFileOf held 20000000 file → IsFilePlay game held play
 
   -- the bytes and the moves of a complete pebbling that it holds
-  pub played : (moves : Vec Move Global) (cost : ℕ) (xs : List Move) → xs ≡ moves.items → Holds (Complete moves cost) → (held : Option (Option (List ℕ))) → IsFileOf held 20000000 file
+  pub played : (moves : Vec Move Global) (cost : ℕ) (xs : List Move) → xs ≡ moves.items → Holds (Complete moves cost) → (held : ToldFile) → IsFileOf held 20000000 file
       → (bytes : List ℕ) × HoldsPlay game bytes xs cost
   played moves cost xs same holds held of_file =
       let is = holds held of_file in
       (is.0, subst (λ ms. HoldsPlay game is.0 ms cost) (sym same) is.2)
 
   -- the answer where the file holds no complete pebbling
-  pub refused : (answer : Answer) → Holds (NoPlay answer) → (text : List ℕ) (kernel : KernelParts) (held : Option (Option (List ℕ))) → IsAccepted text kernel game.graph → IsFileOf held 20000000 file
+  pub refused : (answer : Answer) → Holds (NoPlay answer) → (text : List ℕ) (kernel : KernelParts) (held : ToldFile) → IsAccepted text kernel game.graph → IsFileOf held 20000000 file
       → Meets (IsNoPlay game.slots text held) answer
   refused answer holds text kernel held accepted of_file =
       let is = holds held of_file in
@@ -102,7 +102,7 @@ module _ (game : GameParts) (weights : game.weights ≡ unit_weights) (room : de
         bytes = is.0;
         held = is.1;
         moves = moves.items;
-        count = cost;
+        cost = cost;
         holds = subst (λ g. HoldsPlay g is.0 moves.items cost) (is_judged game weights) is.2;
         ends = ends;
         line = line;
@@ -126,7 +126,7 @@ module _ (game : GameParts) (weights : game.weights ≡ unit_weights) (room : de
         bytes = is.0;
         held = is.1;
         moves = moves.items;
-        count = cost;
+        cost = cost;
         holds = subst (λ g. HoldsPlay g is.0 moves.items cost) (is_judged game weights) is.2;
         plan = plan;
         tidy = subst (λ g. IsTidyPlan g moves.items plan) (is_judged game weights) (subst (λ ms. IsTidyPlan game ms plan) same made.1);

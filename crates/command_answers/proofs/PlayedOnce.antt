@@ -6,7 +6,7 @@ use Rattle.comp_graph.specs.Dags.{degree}
 use Rattle.comp_graph.specs.Games.{GameParts, IsGame, game_of}
 use Rattle.comp_graph.specs.Graphs.{GraphParts, IsGraph, dag_of}
 use Rattle.comp_graph.proofs.GraphLaws.{IsDag-dag_of}
-use Rattle.desk_io.specs.Known.{TellsFile}
+use Rattle.desk_io.specs.Known.{ToldFile, TellsFile}
 use Rattle.kernel_ast.specs.KernelParts.{KernelParts}
 use Rattle.normal_steps.specs.Plans.{PlanParts}
 use Rattle.normal_steps.specs.Steps.{total_cost}
@@ -123,7 +123,7 @@ moved P slots text k j g h bytes held a b same holds =
 few_vertices : {text : List ℕ} {kernel : KernelParts} {graph : GraphParts} → IsAccepted text kernel graph → length graph.nodes < 2 ^ 16
 few_vertices {text} {kernel} {graph} accepted = let small = (accepted_graph accepted).small in omega (arith, small)
 
-module _ (slots : ℕ) (text : List ℕ) (file : Option (Option (List ℕ))) (held : Option (List ℕ)) (told : file ≡ Some held) where
+module _ (slots : ℕ) (text : List ℕ) (file : ToldFile) (held : Option (List ℕ)) (told : file ≡ Some held) where
   -- the same status, text and table
   abbrev pub IsSame : Status → Status → List ℕ → List ℕ → Option (List ℕ) → Option (List ℕ) → Type 0
   IsSame s t p q a b = (s ≡ t) × (p ≡ q) × (a ≡ b)
@@ -135,40 +135,40 @@ module _ (slots : ℕ) (text : List ℕ) (file : Option (Option (List ℕ))) (he
 
   pub judged_once : (s t : Status) (p q : List ℕ) (a b : Option (List ℕ)) → Judges slots text file s p a → Judges slots text file t q b → IsSame s t p q a b
   judged_once s t p q a b (inl h) (inl k) =
-      let here = moved (λ game bytes. HoldsPlay game bytes h.moves h.count) slots text h.kernel k.kernel h.graph k.graph h.bytes k.bytes h.accepted k.accepted (told_bytes file held h.bytes k.bytes told h.held k.held) h.holds in
-      let one = one_pebbling (game_judged k.graph slots) (few_vertices k.accepted) k.bytes h.moves k.moves h.count k.count here k.holds in
+      let here = moved (λ game bytes. HoldsPlay game bytes h.moves h.cost) slots text h.kernel k.kernel h.graph k.graph h.bytes k.bytes h.accepted k.accepted (told_bytes file held h.bytes k.bytes told h.held k.held) h.holds in
+      let one = one_pebbling (game_judged k.graph slots) (few_vertices k.accepted) k.bytes h.moves k.moves h.cost k.cost here k.holds in
       (h.ends ∙ sym k.ends, h.line ∙ ap complete_text one.1 ∙ sym k.line, h.none ∙ sym k.none)
   judged_once s t p q a b (inl h) (inr k) =
-      pebbling_or_line (game_judged k.graph slots) (few_vertices k.accepted) k.bytes q h.moves h.count
-      (moved (λ game bytes. HoldsPlay game bytes h.moves h.count) slots text h.kernel k.kernel h.graph k.graph h.bytes k.bytes h.accepted k.accepted (told_bytes file held h.bytes k.bytes told h.held k.held) h.holds)
+      pebbling_or_line (game_judged k.graph slots) (few_vertices k.accepted) k.bytes q h.moves h.cost
+      (moved (λ game bytes. HoldsPlay game bytes h.moves h.cost) slots text h.kernel k.kernel h.graph k.graph h.bytes k.bytes h.accepted k.accepted (told_bytes file held h.bytes k.bytes told h.held k.held) h.holds)
       k.holds_none
   judged_once s t p q a b (inr h) (inl k) =
-      pebbling_or_line (game_judged h.graph slots) (few_vertices h.accepted) h.bytes p k.moves k.count
-      (moved (λ game bytes. HoldsPlay game bytes k.moves k.count) slots text k.kernel h.kernel k.graph h.graph k.bytes h.bytes k.accepted h.accepted (told_bytes file held k.bytes h.bytes told k.held h.held) k.holds)
+      pebbling_or_line (game_judged h.graph slots) (few_vertices h.accepted) h.bytes p k.moves k.cost
+      (moved (λ game bytes. HoldsPlay game bytes k.moves k.cost) slots text k.kernel h.kernel k.graph h.graph k.bytes h.bytes k.accepted h.accepted (told_bytes file held k.bytes h.bytes told k.held h.held) k.holds)
       h.holds_none
   judged_once s t p q a b (inr h) (inr k) = no_play_once s t p q a b h k
 
   pub tidied_once : (s t : Status) (p q : List ℕ) (a b : Option (List ℕ)) → Tidies slots text file s p a → Tidies slots text file t q b → IsSame s t p q a b
   tidied_once s t p q a b (inl h) (inl k) =
       let bytes = told_bytes file held h.bytes k.bytes told h.held k.held in
-      let here = moved (λ game bytes. HoldsPlay game bytes h.moves h.count) slots text h.kernel k.kernel h.graph k.graph h.bytes k.bytes h.accepted k.accepted bytes h.holds in
-      let one = one_pebbling (game_judged k.graph slots) (few_vertices k.accepted) k.bytes h.moves k.moves h.count k.count here k.holds in
+      let here = moved (λ game bytes. HoldsPlay game bytes h.moves h.cost) slots text h.kernel k.kernel h.graph k.graph h.bytes k.bytes h.accepted k.accepted bytes h.holds in
+      let one = one_pebbling (game_judged k.graph slots) (few_vertices k.accepted) k.bytes h.moves k.moves h.cost k.cost here k.holds in
       let tidy = moved (λ game _. IsTidyPlan game h.moves h.plan) slots text h.kernel k.kernel h.graph k.graph h.bytes k.bytes h.accepted k.accepted bytes h.tidy in
       let plan = one_plan (game_judged k.graph slots) k.moves h.plan k.plan (subst (λ ms. IsTidyPlan (game_judged k.graph slots) ms h.plan) one.0 tidy) k.tidy in
       (h.ends ∙ sym k.ends, h.lines ∙ (λ i. tidied_text (one.1 i) (plan i)) ∙ sym k.lines, h.none ∙ sym k.none)
   tidied_once s t p q a b (inl h) (inr k) =
-      pebbling_or_line (game_judged k.graph slots) (few_vertices k.accepted) k.bytes q h.moves h.count
-      (moved (λ game bytes. HoldsPlay game bytes h.moves h.count) slots text h.kernel k.kernel h.graph k.graph h.bytes k.bytes h.accepted k.accepted (told_bytes file held h.bytes k.bytes told h.held k.held) h.holds)
+      pebbling_or_line (game_judged k.graph slots) (few_vertices k.accepted) k.bytes q h.moves h.cost
+      (moved (λ game bytes. HoldsPlay game bytes h.moves h.cost) slots text h.kernel k.kernel h.graph k.graph h.bytes k.bytes h.accepted k.accepted (told_bytes file held h.bytes k.bytes told h.held k.held) h.holds)
       k.holds_none
   tidied_once s t p q a b (inr h) (inl k) =
-      pebbling_or_line (game_judged h.graph slots) (few_vertices h.accepted) h.bytes p k.moves k.count
-      (moved (λ game bytes. HoldsPlay game bytes k.moves k.count) slots text k.kernel h.kernel k.graph h.graph k.bytes h.bytes k.accepted h.accepted (told_bytes file held k.bytes h.bytes told k.held h.held) k.holds)
+      pebbling_or_line (game_judged h.graph slots) (few_vertices h.accepted) h.bytes p k.moves k.cost
+      (moved (λ game bytes. HoldsPlay game bytes k.moves k.cost) slots text k.kernel h.kernel k.graph h.graph k.bytes h.bytes k.accepted h.accepted (told_bytes file held k.bytes h.bytes told k.held h.held) k.holds)
       h.holds_none
   tidied_once s t p q a b (inr h) (inr k) = no_play_once s t p q a b h k
 
 -- ---- there is an answer
 
-module _ (slots : ℕ) (text bytes : List ℕ) (file : Option (Option (List ℕ))) (kernel : KernelParts) (graph : GraphParts) (accepted : IsAccepted text kernel graph)
+module _ (slots : ℕ) (text bytes : List ℕ) (file : ToldFile) (kernel : KernelParts) (graph : GraphParts) (accepted : IsAccepted text kernel graph)
     (room : degree (dag_of graph) < slots) (held : TellsFile file bytes) where
   -- a status, a text and a table that are so related
   abbrev pub HasAnswer : (Status → List ℕ → Option (List ℕ) → Type 0) → Type 0
@@ -192,7 +192,7 @@ module _ (slots : ℕ) (text bytes : List ℕ) (file : Option (Option (List ℕ)
         bytes = bytes;
         held = held;
         moves = play.0;
-        count = moves_cost (game_of (game_judged graph slots)) play.0;
+        cost = moves_cost (game_of (game_judged graph slots)) play.0;
         holds = play.1;
         ends = refl;
         line = refl;
@@ -232,7 +232,7 @@ module _ (slots : ℕ) (text bytes : List ℕ) (file : Option (Option (List ℕ)
               bytes = bytes;
               held = held;
               moves = ms;
-              count = c;
+              cost = c;
               holds = holds;
               plan = plan;
               tidy = made.1;

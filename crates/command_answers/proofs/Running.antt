@@ -5,7 +5,7 @@ use Rattle.std.specs.declared.alloc.Global.{Global}
 use Rattle.std.proofs.lemmas.List.{length-map}
 use Rattle.comp_graph.specs.declared.node.Output.{Output}
 use Rattle.comp_graph.specs.Graphs.{GraphParts}
-use Rattle.desk_io.specs.Known.{TellsFile, TellsMoreFile, file_items}
+use Rattle.desk_io.specs.Known.{ToldFile, TellsFile, TellsMoreFile, file_items}
 use Rattle.kernel_ast.specs.declared.tree.DeclKind.TheVariants as kinds
 use Rattle.kernel_ast.specs.KernelParts.{KernelParts}
 use Rattle.kernel_ast.specs.Labels.{labels_of}
@@ -56,7 +56,7 @@ outputs_counted text kernel graph values found accepted ran =
 -- ---- answers
 
 -- the answer where the file holds no values
-pub is_wrong : (text : List ℕ) (file : Option (Option (List ℕ))) (kernel : KernelParts) (graph : GraphParts) (bytes : List ℕ) (status : Status) (printed : List ℕ) (table : Option (List ℕ))
+pub is_wrong : (text : List ℕ) (file : ToldFile) (kernel : KernelParts) (graph : GraphParts) (bytes : List ℕ) (status : Status) (printed : List ℕ) (table : Option (List ℕ))
     → status ≡ Values → printed ≡ values_fault_text → table ≡ None → IsNoValuesFile kernel bytes → IsAccepted text kernel graph → TellsFile file bytes
     → Runs text file status printed table
 is_wrong text file kernel graph bytes status printed table is line none wrong accepted held = inr (record {
@@ -73,7 +73,7 @@ is_wrong text file kernel graph bytes status printed table is line none wrong ac
 
 pub wrong_values : {E : Type 0} (r : Result Answer E) (kernel : KernelParts) (graph : GraphParts) (bytes : List ℕ)
     → IfOk r (λ a. a.status ≡ Values) → IfOk r (λ a. a.text.items ≡ values_fault_text) → IfOk r (λ a. file_items a.table ≡ None) → IsNoValuesFile kernel bytes
-    → IfOk r (λ a. (text : List ℕ) (file : Option (Option (List ℕ))) → IsAccepted text kernel graph → TellsFile file bytes → Meets (Runs text file) a)
+    → IfOk r (λ a. (text : List ℕ) (file : ToldFile) → IsAccepted text kernel graph → TellsFile file bytes → Meets (Runs text file) a)
 wrong_values (Ok a) kernel graph bytes is line none wrong = λ text file accepted held.
     is_wrong text file kernel graph bytes a.status a.text.items (file_items a.table) is line none wrong accepted held
 wrong_values (Err e) kernel graph bytes is line none wrong = tt
@@ -81,7 +81,7 @@ wrong_values (Err e) kernel graph bytes is line none wrong = tt
 -- the answer where the file is too long
 pub long_values : {E : Type 0} (r : Result Answer E) (kernel : KernelParts) (graph : GraphParts)
     → IfOk r (λ a. a.status ≡ Values) → IfOk r (λ a. a.text.items ≡ values_fault_text) → IfOk r (λ a. file_items a.table ≡ None)
-    → IfOk r (λ a. (text : List ℕ) (file : Option (Option (List ℕ))) → IsAccepted text kernel graph → TellsMoreFile file 1000000 → Meets (Runs text file) a)
+    → IfOk r (λ a. (text : List ℕ) (file : ToldFile) → IsAccepted text kernel graph → TellsMoreFile file 1000000 → Meets (Runs text file) a)
 long_values (Ok a) kernel graph is line none = λ text file accepted more.
     let told = told_more_file file 1000000 more in
     is_wrong text file kernel graph told.0 a.status a.text.items (file_items a.table) is line none (no_room (length (labels_of kinds.Input kernel.decls)) told.0 told.2) accepted told.1
@@ -90,20 +90,20 @@ long_values (Err e) kernel graph is line none = tt
 -- what answers the bytes of a file answers what was read of it
 pub of_whole : {E : Type 0} (r : Result Answer E) (kernel : KernelParts) (graph : GraphParts) (file : FileBytes) (held : Vec ℕ Global) (bytes : List ℕ)
     → file ≡ Whole held → bytes ≡ held.items
-    → IfOk r (λ a. (text : List ℕ) (told : Option (Option (List ℕ))) → IsAccepted text kernel graph → TellsFile told bytes → Meets (Runs text told) a)
-    → IfOk r (λ a. (text : List ℕ) (told : Option (Option (List ℕ))) → IsAccepted text kernel graph → IsFileOf told 1000000 file → Meets (Runs text told) a)
+    → IfOk r (λ a. (text : List ℕ) (told : ToldFile) → IsAccepted text kernel graph → TellsFile told bytes → Meets (Runs text told) a)
+    → IfOk r (λ a. (text : List ℕ) (told : ToldFile) → IsAccepted text kernel graph → IsFileOf told 1000000 file → Meets (Runs text told) a)
 of_whole (Ok a) kernel graph file held bytes is same h = λ text told accepted of_file.
     h text told accepted (subst (TellsFile told) (sym same) (subst (IsFileOf told 1000000) is of_file).0)
 of_whole (Err e) kernel graph file held bytes is same h = tt
 
 pub of_long : {E : Type 0} (r : Result Answer E) (kernel : KernelParts) (graph : GraphParts) (file : FileBytes) → file ≡ TooLong
-    → IfOk r (λ a. (text : List ℕ) (told : Option (Option (List ℕ))) → IsAccepted text kernel graph → TellsMoreFile told 1000000 → Meets (Runs text told) a)
-    → IfOk r (λ a. (text : List ℕ) (told : Option (Option (List ℕ))) → IsAccepted text kernel graph → IsFileOf told 1000000 file → Meets (Runs text told) a)
+    → IfOk r (λ a. (text : List ℕ) (told : ToldFile) → IsAccepted text kernel graph → TellsMoreFile told 1000000 → Meets (Runs text told) a)
+    → IfOk r (λ a. (text : List ℕ) (told : ToldFile) → IsAccepted text kernel graph → IsFileOf told 1000000 file → Meets (Runs text told) a)
 of_long (Ok a) kernel graph file is h = λ text told accepted of_file. h text told accepted (subst (IsFileOf told 1000000) is of_file)
 of_long (Err e) kernel graph file is h = tt
 
 -- the answer where the file holds values
-is_valued : (text : List ℕ) (file : Option (Option (List ℕ))) (kernel : KernelParts) (graph : GraphParts) (bytes : List ℕ) (values found : List ℤ)
+is_valued : (text : List ℕ) (file : ToldFile) (kernel : KernelParts) (graph : GraphParts) (bytes : List ℕ) (values found : List ℤ)
     (status : Status) (printed : List ℕ) (table : Option (List ℕ))
     → status ≡ Done → printed ≡ outputs_text (map (λ (o : Output). o.label) graph.outputs) found → table ≡ None → length bytes ≤ 1000000 → Spells bytes values → IsRun kernel values found
     → IsAccepted text kernel graph → TellsFile file bytes → Runs text file status printed table
@@ -123,7 +123,7 @@ is_valued text file kernel graph bytes values found status printed table is line
 pub right_values : {E : Type 0} (r : Result Answer E) (kernel : KernelParts) (graph : GraphParts) (bytes : List ℕ) (values found : List ℤ)
     → IfOk r (λ a. a.status ≡ Done) → IfOk r (λ a. a.text.items ≡ outputs_text (map (λ (o : Output). o.label) graph.outputs) found) → IfOk r (λ a. file_items a.table ≡ None)
     → length bytes ≤ 1000000 → Spells bytes values → IsRun kernel values found
-    → IfOk r (λ a. (text : List ℕ) (file : Option (Option (List ℕ))) → IsAccepted text kernel graph → TellsFile file bytes → Meets (Runs text file) a)
+    → IfOk r (λ a. (text : List ℕ) (file : ToldFile) → IsAccepted text kernel graph → TellsFile file bytes → Meets (Runs text file) a)
 right_values (Ok a) kernel graph bytes values found is lines none short spelled ran = λ text file accepted held.
     is_valued text file kernel graph bytes values found a.status a.text.items (file_items a.table) is lines none short spelled ran accepted held
 right_values (Err e) kernel graph bytes values found is lines none short spelled ran = tt

@@ -16,7 +16,7 @@ use Rattle.cover_cert.proofs.CoverRanges.{cover_can_be_spelled}
 use Rattle.cover_cert.proofs.Results.{cover_search_has}
 use Rattle.cover_cert.proofs.Supported.{cover_support_is_found}
 use Rattle.first_plan.specs.FirstPlan.{first_steps}
-use Rattle.forced_bounds.specs.Lists.{IsIn}
+use Rattle.comp_graph.specs.Lists.{IsIn}
 use Rattle.forced_bounds.proofs.Ends.{floor_of_finish}
 use Rattle.kernel_ast.specs.KernelParts.{KernelParts}
 use Rattle.normal_steps.specs.Sound.{IsSound}

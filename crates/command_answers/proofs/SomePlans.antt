@@ -8,7 +8,7 @@ use Rattle.comp_graph.proofs.GraphLaws.{IsDag-dag_of}
 use Rattle.pebble_rules.specs.Rules.{start}
 use Rattle.normal_steps.specs.Steps.{total_cost}
 use Rattle.first_plan.specs.FirstPlan.{first_steps}
-use Rattle.forced_bounds.specs.Lists.{IsIn}
+use Rattle.comp_graph.specs.Lists.{IsIn}
 use Rattle.forced_bounds.specs.Floor.{floor}
 use Rattle.forced_bounds.proofs.Ends.{floor_of_finish}
 use Rattle.potential_cert.specs.declared.tables.Row.{Row}

@@ -2,7 +2,7 @@
 use Rattle.std.proofs.Common.{◌≡◌, ◌<◌, ◌+◌, ℕ, List, [], length, replicate, None, Some, refl, sym, ◌∙◌, inl, arith}
 use Rattle.std.proofs.lemmas.List.{length-replicate}
 use Rattle.std.specs.declared.option.Option.{Option}
-use Rattle.desk_io.specs.Known.{Tells, TellsMore, TellsFile, TellsMoreFile}
+use Rattle.desk_io.specs.Known.{ToldFile, Tells, TellsMore, TellsFile, TellsMoreFile}
 use Rattle.command_answers.specs.Accepted.{IsKernelFault}
 
 pub told_text : (known : Option (List ℕ)) → (text : List ℕ) × Tells known text
@@ -13,7 +13,7 @@ pub told_more : (known : Option (List ℕ)) (limit : ℕ) → TellsMore known li
 told_more None limit more = (replicate (limit + 1) 0, tt, rw (length-replicate {A = ℕ} (limit + 1) 0) (omega arith))
 told_more (Some known) limit more = (known, refl, more)
 
-pub told_more_file : (known : Option (Option (List ℕ))) (limit : ℕ) → TellsMoreFile known limit → (bytes : List ℕ) × TellsFile known bytes × (limit < length bytes)
+pub told_more_file : (known : ToldFile) (limit : ℕ) → TellsMoreFile known limit → (bytes : List ℕ) × TellsFile known bytes × (limit < length bytes)
 told_more_file None limit more = (replicate (limit + 1) 0, tt, rw (length-replicate {A = ℕ} (limit + 1) 0) (omega arith))
 told_more_file (Some None) limit more = absurd more
 told_more_file (Some (Some known)) limit more = (known, refl, more)
@@ -30,19 +30,19 @@ told_is (Some known) told text h e = sym h ∙ (let same : known ≡ text = cc i
 -- ---- the file
 
 -- a file that tells bytes is not missing
-pub not_missing : (file : Option (Option (List ℕ))) (bytes : List ℕ) → TellsFile file bytes → file ≡ Some None → ⊥
+pub not_missing : (file : ToldFile) (bytes : List ℕ) → TellsFile file bytes → file ≡ Some None → ⊥
 not_missing None bytes held e = cc
 not_missing (Some None) bytes held e = held
 not_missing (Some (Some known)) bytes held e = cc
 
 -- the bytes of a file that is told
-pub told_bytes : (file : Option (Option (List ℕ))) (held : Option (List ℕ)) (some others : List ℕ) → file ≡ Some held → TellsFile file some → TellsFile file others → some ≡ others
+pub told_bytes : (file : ToldFile) (held : Option (List ℕ)) (some others : List ℕ) → file ≡ Some held → TellsFile file some → TellsFile file others → some ≡ others
 told_bytes None held some others e a b = absurd cc
 told_bytes (Some None) held some others e a b = absurd a
 told_bytes (Some (Some known)) held some others e a b = sym a ∙ b
 
 -- the bytes of a file that is not missing
-pub bytes_of : (file : Option (Option (List ℕ))) → (file ≡ Some None → ⊥) → (bytes : List ℕ) × TellsFile file bytes
+pub bytes_of : (file : ToldFile) → (file ≡ Some None → ⊥) → (bytes : List ℕ) × TellsFile file bytes
 bytes_of None there = ([], tt)
 bytes_of (Some None) there = absurd (there refl)
 bytes_of (Some (Some known)) there = (known, refl)

@@ -2,7 +2,7 @@
 -- load and a store cost 1, and beside it the plan of the same game, with the table of that plan.
 use Rattle.std.specs.Prelude.{◌≡◌, ℕ, ◌+◌, ◌≤◌, ◌<◌, List, Option, Some}
 use Rattle.cache_model.specs.Caches.{Cache, whole_run}
-use Rattle.cache_model.specs.CacheRuns.{loads_of, stores_of}
+use Rattle.pebble_rules.specs.Transfers.{loads, stores}
 use Rattle.comp_graph.specs.Dags.{degree}
 use Rattle.comp_graph.specs.Graphs.{GraphParts, dag_of}
 use Rattle.comp_graph.specs.Games.{unit_weights}
@@ -40,7 +40,7 @@ cache_facts loads stores hits numbers = record {
 
 -- the values of the lines for the run that is asked for
 abbrev pub facts_beside : Caching → GraphParts → PlanNumbers → CacheFacts
-facts_beside asked graph numbers = cache_facts (loads_of (run_asked asked graph).moves) (stores_of (run_asked asked graph).moves) (run_asked asked graph).hits numbers
+facts_beside asked graph numbers = cache_facts (loads (run_asked asked graph).moves) (stores (run_asked asked graph).moves) (run_asked asked graph).hits numbers
 
 -- The text is accepted, and there are more slots than the degree of its graph; the numbers and the table are those of its plan, and a complete
 -- pebbling of that cost exists. The moves of the cache are a complete pebbling too, whose cost is the sum of its loads and stores, so the

@@ -7,7 +7,7 @@ use Rattle.comp_graph.specs.Games.{PebbleGame}
 use Rattle.comp_graph.specs.Graphs.{GraphParts, dag_of}
 use Rattle.cert_checker.specs.declared.refusal.Reason.{Reason}
 use Rattle.cert_checker.specs.Refusals.{IsRefusal, number_of_reason}
-use Rattle.desk_io.specs.Known.{TellsFile}
+use Rattle.desk_io.specs.Known.{ToldFile, TellsFile}
 use Rattle.kernel_ast.specs.KernelParts.{KernelParts}
 use Rattle.pebble_rules.specs.declared.moves.Move.{Move}
 use Rattle.pebble_rules.specs.Rules.{start, IsComplete, cost as moves_cost}
@@ -15,6 +15,8 @@ use Rattle.potential_cert.specs.GameTables.{IsTableOf}
 use Rattle.potential_cert.specs.Table.{TableParts}
 use Rattle.potential_cert.specs.TableBytes.{IsSpelling}
 use Rattle.command_words.specs.declared.commands.Checking.{Checking}
+use Rattle.command_answers.specs.declared.check.Checked.{Checked}
+use Rattle.command_answers.specs.declared.check.Checked.TheVariants as checks
 use Rattle.command_answers.specs.declared.status.Status.{Status}
 use Rattle.command_answers.specs.declared.status.Status.TheVariants.{Done, Refused}
 use Rattle.command_answers.specs.Accepted.{IsAccepted}
@@ -49,9 +51,26 @@ pub data IsRefused (g : PebbleGame) (bytes : List ℕ) (reason row : ℕ) : Type
   no_table : IsNoTableFile bytes → reason ≡ 1 → row ≡ 0 → IsRefused g bytes reason row
   broken : (t : TableParts) (why : Reason) → IsTableFile bytes t → IsRefusal g t why row → reason ≡ number_of_reason why → IsRefused g bytes reason row
 
+-- the bytes are a table file of the game, with this bound
+pub record IsAcceptedWith (g : PebbleGame) (bytes : List ℕ) (bound : ℕ) : Type 0 where
+  pub certificate : TableParts
+  pub certifies : IsCertificate g bytes certificate
+  pub same : bound ≡ certificate.bound
+
+-- what the bytes prove of the game: the bound of their table, or why they are refused
+abbrev pub IsCheckOf : PebbleGame → List ℕ → Checked → Type 0
+IsCheckOf g bytes (checks.Accepted bound) = IsAcceptedWith g bytes bound
+IsCheckOf g bytes (checks.Refused reason row) = IsRefused g bytes reason row
+
+-- what the file proves of it, as far as the desk tells the file
+pub record IsCheckOfFile (g : PebbleGame) (file : ToldFile) (checked : Checked) : Type 0 where
+  pub bytes : List ℕ
+  pub held : TellsFile file bytes
+  pub proves : IsCheckOf g bytes checked
+
 -- The text is accepted, there are more slots than the degree of its graph, the file is a table file of the game, and its bound is printed:
 -- no complete pebbling costs less, whoever made the file. No table is written.
-pub record IsCertified (asked : Checking) (text : List ℕ) (file : Option (Option (List ℕ))) (status : Status) (printed : List ℕ) (table : Option (List ℕ)) : Type 0 where
+pub record IsCertified (asked : Checking) (text : List ℕ) (file : ToldFile) (status : Status) (printed : List ℕ) (table : Option (List ℕ)) : Type 0 where
   pub kernel : KernelParts
   pub graph : GraphParts
   pub accepted : IsAccepted text kernel graph
@@ -68,7 +87,7 @@ pub record IsCertified (asked : Checking) (text : List ℕ) (file : Option (Opti
 
 -- The text is accepted, there are more slots than the degree of its graph, and the file is refused for a reason and by a row, which are
 -- printed. No table is written.
-pub record IsRefusedFile (asked : Checking) (text : List ℕ) (file : Option (Option (List ℕ))) (status : Status) (printed : List ℕ) (table : Option (List ℕ)) : Type 0 where
+pub record IsRefusedFile (asked : Checking) (text : List ℕ) (file : ToldFile) (status : Status) (printed : List ℕ) (table : Option (List ℕ)) : Type 0 where
   pub kernel : KernelParts
   pub graph : GraphParts
   pub accepted : IsAccepted text kernel graph
@@ -83,5 +102,5 @@ pub record IsRefusedFile (asked : Checking) (text : List ℕ) (file : Option (Op
   pub none : table ≡ None
 
 -- the two answers to the check of a file, as far as the desk tells the file
-abbrev pub Checks : Checking → List ℕ → Option (Option (List ℕ)) → Status → List ℕ → Option (List ℕ) → Type 0
+abbrev pub Checks : Checking → List ℕ → ToldFile → Status → List ℕ → Option (List ℕ) → Type 0
 Checks asked text file status printed table = IsCertified asked text file status printed table ⊎ IsRefusedFile asked text file status printed table

@@ -9,7 +9,7 @@ use Rattle.cert_checker.specs.Refusals.{number_of_reason}
 use Rattle.cover_cert.specs.CoverBytes.{IsCoverSpelling}
 use Rattle.cover_cert.specs.CoverTable.{CoverTableParts, IsCoverTableOf}
 use Rattle.cover_cert.specs.Refusals.{IsCoverRefusal}
-use Rattle.desk_io.specs.Known.{TellsFile}
+use Rattle.desk_io.specs.Known.{ToldFile, TellsFile}
 use Rattle.kernel_ast.specs.KernelParts.{KernelParts}
 use Rattle.pebble_rules.specs.declared.moves.Move.{Move}
 use Rattle.pebble_rules.specs.Rules.{start, IsComplete, cost as moves_cost}
@@ -42,7 +42,7 @@ pub data IsCoverRefused (g : PebbleGame) (bytes : List ℕ) (reason row : ℕ) :
 
 -- The text is accepted, there are more slots than the degree of its graph, the file is a covered table file of the game, and its bound is
 -- printed: no complete pebbling costs less, whoever made the file. No table is written.
-pub record IsCoverCertified (slots : ℕ) (text : List ℕ) (file : Option (Option (List ℕ))) (status : Status) (printed : List ℕ) (table : Option (List ℕ)) : Type 0 where
+pub record IsCoverCertified (slots : ℕ) (text : List ℕ) (file : ToldFile) (status : Status) (printed : List ℕ) (table : Option (List ℕ)) : Type 0 where
   pub kernel : KernelParts
   pub graph : GraphParts
   pub accepted : IsAccepted text kernel graph
@@ -59,7 +59,7 @@ pub record IsCoverCertified (slots : ℕ) (text : List ℕ) (file : Option (Opti
 
 -- The text is accepted, there are more slots than the degree of its graph, and the file is refused for a reason and by a row, which are
 -- printed. No table is written.
-pub record IsCoverRefusedFile (slots : ℕ) (text : List ℕ) (file : Option (Option (List ℕ))) (status : Status) (printed : List ℕ) (table : Option (List ℕ)) : Type 0 where
+pub record IsCoverRefusedFile (slots : ℕ) (text : List ℕ) (file : ToldFile) (status : Status) (printed : List ℕ) (table : Option (List ℕ)) : Type 0 where
   pub kernel : KernelParts
   pub graph : GraphParts
   pub accepted : IsAccepted text kernel graph
@@ -74,7 +74,7 @@ pub record IsCoverRefusedFile (slots : ℕ) (text : List ℕ) (file : Option (Op
   pub none : table ≡ None
 
 -- the two answers to the check of a file, as far as the desk tells the file
-abbrev pub CoverChecks : ℕ → List ℕ → Option (Option (List ℕ)) → Status → List ℕ → Option (List ℕ) → Type 0
+abbrev pub CoverChecks : ℕ → List ℕ → ToldFile → Status → List ℕ → Option (List ℕ) → Type 0
 CoverChecks slots text file status printed table = IsCoverCertified slots text file status printed table ⊎ IsCoverRefusedFile slots text file status printed table
 
 -- each file is a covered table file of the game, or is refused for a reason and by a row

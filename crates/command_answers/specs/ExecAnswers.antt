@@ -3,7 +3,7 @@
 use Rattle.std.specs.Prelude.{◌≡◌, ◌⊎◌, ℕ, ℤ, List, ◌++◌, length, map, codes, None, Ok, Err}
 use Rattle.std.specs.declared.option.Option.{Option}
 use Rattle.std.specs.Fmt.{decimal}
-use Rattle.desk_io.specs.Known.{TellsFile}
+use Rattle.desk_io.specs.Known.{ToldFile, TellsFile}
 use Rattle.plan_report.specs.OutputsText.{outputs_text}
 use Rattle.scratch_machine.specs.declared.code.OutWord.{OutWord}
 use Rattle.scratch_machine.specs.Codes.{CodeParts}
@@ -32,7 +32,7 @@ place_of (empty_word at) = at
 
 -- The input is a code, the file holds a value for each of its inputs, and on these values its run comes to an end, whose outputs and
 -- transfers are printed. No table is written.
-pub record IsRunToEnd (text : List ℕ) (file : Option (Option (List ℕ))) (status : Status) (printed : List ℕ) (table : Option (List ℕ)) : Type 0 where
+pub record IsRunToEnd (text : List ℕ) (file : ToldFile) (status : Status) (printed : List ℕ) (table : Option (List ℕ)) : Type 0 where
   pub code : CodeParts
   pub input : IsCodeInput text code
   pub bytes : List ℕ
@@ -47,7 +47,7 @@ pub record IsRunToEnd (text : List ℕ) (file : Option (Option (List ℕ))) (sta
 
 -- The input is a code, the file holds a value for each of its inputs, and on these values its run reads what is empty, at a place that is
 -- printed. No table is written.
-pub record IsEmptyRead (text : List ℕ) (file : Option (Option (List ℕ))) (status : Status) (printed : List ℕ) (table : Option (List ℕ)) : Type 0 where
+pub record IsEmptyRead (text : List ℕ) (file : ToldFile) (status : Status) (printed : List ℕ) (table : Option (List ℕ)) : Type 0 where
   pub code : CodeParts
   pub input : IsCodeInput text code
   pub bytes : List ℕ
@@ -61,7 +61,7 @@ pub record IsEmptyRead (text : List ℕ) (file : Option (Option (List ℕ))) (st
   pub none : table ≡ None
 
 -- The input is a code, the file does not hold a value for each of its inputs, and the line that says so is printed. No table is written.
-pub record IsWrongInputs (text : List ℕ) (file : Option (Option (List ℕ))) (status : Status) (printed : List ℕ) (table : Option (List ℕ)) : Type 0 where
+pub record IsWrongInputs (text : List ℕ) (file : ToldFile) (status : Status) (printed : List ℕ) (table : Option (List ℕ)) : Type 0 where
   pub code : CodeParts
   pub input : IsCodeInput text code
   pub bytes : List ℕ
@@ -72,6 +72,6 @@ pub record IsWrongInputs (text : List ℕ) (file : Option (Option (List ℕ))) (
   pub none : table ≡ None
 
 -- the three answers to a code and a file, as far as the desk tells the file
-abbrev pub Executes : List ℕ → Option (Option (List ℕ)) → Status → List ℕ → Option (List ℕ) → Type 0
+abbrev pub Executes : List ℕ → ToldFile → Status → List ℕ → Option (List ℕ) → Type 0
 Executes text file status printed table =
     IsRunToEnd text file status printed table ⊎ (IsEmptyRead text file status printed table ⊎ IsWrongInputs text file status printed table)

@@ -5,7 +5,7 @@ use Rattle.branch_bound.specs.declared.searching.Found.{Found}
 use Rattle.branch_bound.specs.declared.searching.Verdict.{Verdict}
 use Rattle.branch_bound.specs.declared.searching.Verdict.TheVariants.{Optimal, Open}
 use Rattle.comp_graph.specs.Games.{GameParts}
-use Rattle.desk_io.specs.Known.{TellsFile, TellsMoreFile, file_items}
+use Rattle.desk_io.specs.Known.{ToldFile, TellsFile, TellsMoreFile, file_items}
 use Rattle.command_answers.specs.declared.answer.Answer.{Answer}
 use Rattle.command_answers.specs.declared.answer.EarlyEnd.{EarlyEnd}
 use Rattle.command_answers.specs.declared.answer.EarlyEnd.TheVariants.{Refused, ReadFault, NoMemory}
@@ -38,7 +38,7 @@ IfAnswer (Err ReadFault) P = Unit {0}
 IfAnswer (Err NoMemory) P = Unit {0}
 
 -- the file is there with these bytes, at most so many, or with more than so many, as far as the desk tells it
-abbrev pub IsFileOf : Option (Option (List ℕ)) → ℕ → FileBytes → Type 0
+abbrev pub IsFileOf : ToldFile → ℕ → FileBytes → Type 0
 IsFileOf file limit (Whole bytes) = TellsFile file bytes.items × (length bytes.items ≤ limit)
 IsFileOf file limit TooLong = TellsMoreFile file limit
 
@@ -73,5 +73,5 @@ IsPlayOf game bytes (Complete moves cost) = HoldsPlay game bytes moves.items cos
 IsPlayOf game bytes (NoPlay answer) = Meets (RefusesPlay game bytes) answer
 
 -- so does the file, as far as the desk tells it
-abbrev pub IsFilePlay : GameParts → Option (Option (List ℕ)) → FilePlay → Type 0
+abbrev pub IsFilePlay : GameParts → ToldFile → FilePlay → Type 0
 IsFilePlay game file play = (bytes : List ℕ) × TellsFile file bytes × IsPlayOf game bytes play

@@ -1,8 +1,7 @@
 -- What `plan` answers to an accepted kernel with enough slots: the numbers that it prints, the verdict and the code, and when they answer
 -- a kernel, a number of slots, a budget of positions and the weights of a load and a store. This is the promise of the program for a kernel
 -- that it accepts. What is shown of the numbers and of the table, without the code, is a record of its own, which `trial` promises too.
-use Rattle.std.specs.Prelude.{◌≡◌, ℕ, ℤ, ◌+◌, ◌*◌, ◌≤◌, ◌<◌, ◌↔◌, Bool, true, false, List, ◌++◌, length, map, Option, Some, Ok}
-use Rattle.comp_graph.specs.declared.costs.Weights.{Weights}
+use Rattle.std.specs.Prelude.{◌≡◌, ℕ, ◌≤◌, ◌<◌, ◌↔◌, Bool, true, false, List, ◌++◌, length, Option, Some}
 use Rattle.comp_graph.specs.Dags.{degree}
 use Rattle.comp_graph.specs.Graphs.{GraphParts, IsGraph, dag_of}
 use Rattle.comp_graph.specs.Games.{GameParts, game_of}
@@ -13,14 +12,8 @@ use Rattle.normal_steps.specs.Steps.{total_cost}
 use Rattle.first_plan.specs.FirstPlan.{first_steps}
 use Rattle.search_laws.specs.Search.{Search, searched, rows_of}
 use Rattle.slot_alloc.specs.PlanCode.{plan_code}
-use Rattle.scratch_machine.specs.declared.code.OutWord.{OutWord}
-use Rattle.scratch_machine.specs.Codes.{CodeParts, IsCode}
-use Rattle.scratch_machine.specs.Machines.{Ending, run}
-use Rattle.scratch_machine.specs.CodePlays.{CodePlays}
-use Rattle.kernel_ast.specs.declared.tree.DeclKind.TheVariants.{Input, Output}
+use Rattle.scratch_machine.specs.Codes.{CodeParts}
 use Rattle.kernel_ast.specs.KernelParts.{KernelParts}
-use Rattle.kernel_ast.specs.Labels.{labels_of}
-use Rattle.kernel_ast.specs.Meaning.{outputs as source_outputs}
 use Rattle.plan_report.specs.declared.facts.Facts.{Facts}
 use Rattle.plan_report.specs.ReportText.{report_text}
 use Rattle.potential_cert.specs.declared.tables.Row.{Row}
@@ -34,6 +27,7 @@ use Rattle.command_answers.specs.declared.status.Status.{Status}
 use Rattle.command_answers.specs.declared.status.Status.TheVariants.{Optimal, Open}
 use Rattle.command_answers.specs.Accepted.{IsAccepted}
 use Rattle.command_answers.specs.PlayedGames.{game_asked, played_for}
+use Rattle.command_answers.specs.RightCodes.{IsRightCode}
 
 -- the printed numbers: the first plan's cost, the cost of the plan that was found and the lower bound, all by the weights of loads and
 -- stores, and the number of expanded positions; and whether the verdict is Optimal
@@ -93,42 +87,14 @@ pub record IsShown (graph : GraphParts) (asked : Planning) (numbers : PlanNumber
   -- no complete pebbling costs less than the bound, whatever it computes again, drops or moves in vain
   pub lowest : (moves : List Move) → IsComplete (played_for asked graph) (start (played_for asked graph)) moves → numbers.bound ≤ moves_cost (played_for asked graph) moves
 
--- what the loads and stores of a run weigh together
-abbrev pub run_weight : Weights → Ending → ℕ
-run_weight weights ending = weights.load * ending.loads + weights.store * ending.stores
-
--- On these values of the inputs the run of the code meets no empty slot or word, gives the outputs of the source, and makes loads and
--- stores that weigh exactly this much.
-pub record RunsRight (kernel : KernelParts) (weights : Weights) (code : CodeParts) (weight : ℕ) (values : List ℤ) : Type 0 where
-  pub ending : Ending
-  pub runs : run code values ≡ Ok ending
-  pub same : ending.outputs ≡ source_outputs kernel values
-  pub counted : run_weight weights ending ≡ weight
-
--- there is a complete pebbling of this cost that the code plays, by the rules of the game
-pub record PlaysPebbling (game : GameParts) (code : CodeParts) (count : ℕ) : Type 0 where
-  pub moves : List Move
-  pub complete : IsComplete (game_of game) (start (game_of game)) moves
-  pub costs : moves_cost (game_of game) moves ≡ count
-  pub plays : CodePlays game.graph code moves
-
 -- The plan and its table answer a kernel with this graph, with the slots, the budget of positions and the weights that are
 -- asked for.
 pub record IsAnswer (kernel : KernelParts) (graph : GraphParts) (asked : Planning) (plan : PrintedPlan) (table : TableParts) : Type 0 where
   -- the numbers and the table are those of the plan that the search finds, and the code is that of its steps
   pub shown : IsShown graph asked plan.numbers table
   pub code : plan.code ≡ plan_code (plan_asked asked graph)
-  -- the code has these slots, names no slot or word that it has not, and has the labels of the kernel's input and output elements,
-  -- in order of declaration and row by row
-  pub code_slots : plan.code.slots ≡ asked.slots
-  pub code_bounds : IsCode plan.code
-  pub code_inputs : plan.code.inputs ≡ labels_of Input kernel.decls
-  pub code_outputs : map (λ (o : OutWord). o.label) plan.code.outputs ≡ labels_of Output kernel.decls
-  -- the code is right on every list of as many values as the kernel has input elements, those of 64 bits among them, with loads and
-  -- stores that weigh exactly the cost
-  pub right : (values : List ℤ) → length values ≡ length (labels_of Input kernel.decls) → RunsRight kernel asked.weights plan.code plan.numbers.cost values
-  -- the code plays a complete pebbling of its cost, so an operation never writes over the slot of an operand
-  pub played : PlaysPebbling (game_asked asked graph) plan.code plan.numbers.cost
+  -- it is right for the kernel and the game, with loads and stores that weigh exactly the cost
+  pub right : IsRightCode kernel (game_asked asked graph) plan.code plan.numbers.cost
 
 -- the values of the report's lines
 abbrev pub facts_of : GraphParts → Planning → PlanNumbers → Facts

@@ -5,7 +5,7 @@ use Rattle.std.specs.Fmt.{decimal}
 use Rattle.comp_graph.specs.Dags.{degree}
 use Rattle.comp_graph.specs.Games.{GameParts, game_of, unit_weights}
 use Rattle.comp_graph.specs.Graphs.{GraphParts, dag_of}
-use Rattle.desk_io.specs.Known.{TellsFile}
+use Rattle.desk_io.specs.Known.{ToldFile, TellsFile}
 use Rattle.kernel_ast.specs.KernelParts.{KernelParts}
 use Rattle.line_texts.specs.BadLines.{IsBadLine}
 use Rattle.normal_steps.specs.Plans.{PlanParts, IsPlan}
@@ -60,10 +60,10 @@ pub record IsPlayFile (game : GameParts) (bytes : List ℕ) (moves : List Move) 
   pub reads : ReadsAs (length game.graph.nodes) bytes moves
 
 -- the moves of a play file are a complete pebbling of the game, of this cost
-pub record HoldsPlay (game : GameParts) (bytes : List ℕ) (moves : List Move) (count : ℕ) : Type 0 where
+pub record HoldsPlay (game : GameParts) (bytes : List ℕ) (moves : List Move) (cost : ℕ) : Type 0 where
   pub file : IsPlayFile game bytes moves
   pub complete : IsComplete (game_of game) (start (game_of game)) moves
-  pub costs : count ≡ moves_cost (game_of game) moves
+  pub costs : cost ≡ moves_cost (game_of game) moves
 
 -- The bytes hold no complete pebbling of the game, and this line says why: they are more than 20,000,000, or they are no play text, or
 -- the moves of the play file have a fault.
@@ -86,7 +86,7 @@ pub record IsTidyPlan (game : GameParts) (moves : List Move) (plan : PlanParts) 
 
 -- The text is accepted, there are more slots than the degree of its graph, the file holds a complete pebbling of the graph with these
 -- slots, and its cost is printed. No table is written.
-pub record IsJudged (slots : ℕ) (text : List ℕ) (file : Option (Option (List ℕ))) (status : Status) (printed : List ℕ) (table : Option (List ℕ)) : Type 0 where
+pub record IsJudged (slots : ℕ) (text : List ℕ) (file : ToldFile) (status : Status) (printed : List ℕ) (table : Option (List ℕ)) : Type 0 where
   pub kernel : KernelParts
   pub graph : GraphParts
   pub accepted : IsAccepted text kernel graph
@@ -94,15 +94,15 @@ pub record IsJudged (slots : ℕ) (text : List ℕ) (file : Option (Option (List
   pub bytes : List ℕ
   pub held : TellsFile file bytes
   pub moves : List Move
-  pub count : ℕ
-  pub holds : HoldsPlay (game_judged graph slots) bytes moves count
+  pub cost : ℕ
+  pub holds : HoldsPlay (game_judged graph slots) bytes moves cost
   pub ends : status ≡ Done
-  pub line : printed ≡ complete_text count
+  pub line : printed ≡ complete_text cost
   pub none : table ≡ None
 
 -- The text is accepted, there are more slots than the degree of its graph, the file holds a complete pebbling of the graph with these
 -- slots, and the plan that follows it costs no more. Both costs are printed, and the plan's code, which is right. No table is written.
-pub record IsTidied (slots : ℕ) (text : List ℕ) (file : Option (Option (List ℕ))) (status : Status) (printed : List ℕ) (table : Option (List ℕ)) : Type 0 where
+pub record IsTidied (slots : ℕ) (text : List ℕ) (file : ToldFile) (status : Status) (printed : List ℕ) (table : Option (List ℕ)) : Type 0 where
   pub kernel : KernelParts
   pub graph : GraphParts
   pub accepted : IsAccepted text kernel graph
@@ -110,18 +110,18 @@ pub record IsTidied (slots : ℕ) (text : List ℕ) (file : Option (Option (List
   pub bytes : List ℕ
   pub held : TellsFile file bytes
   pub moves : List Move
-  pub count : ℕ
-  pub holds : HoldsPlay (game_judged graph slots) bytes moves count
+  pub cost : ℕ
+  pub holds : HoldsPlay (game_judged graph slots) bytes moves cost
   pub plan : PlanParts
   pub tidy : IsTidyPlan (game_judged graph slots) moves plan
   pub code : IsRightCode kernel (game_judged graph slots) (plan_code plan) plan.total
   pub ends : status ≡ Done
-  pub lines : printed ≡ tidied_text count plan
+  pub lines : printed ≡ tidied_text cost plan
   pub none : table ≡ None
 
 -- The text is accepted, there are more slots than the degree of its graph, and the file holds no complete pebbling of the graph with these
 -- slots. A line says why. No table is written.
-pub record IsNoPlay (slots : ℕ) (text : List ℕ) (file : Option (Option (List ℕ))) (status : Status) (printed : List ℕ) (table : Option (List ℕ)) : Type 0 where
+pub record IsNoPlay (slots : ℕ) (text : List ℕ) (file : ToldFile) (status : Status) (printed : List ℕ) (table : Option (List ℕ)) : Type 0 where
   pub kernel : KernelParts
   pub graph : GraphParts
   pub accepted : IsAccepted text kernel graph
@@ -133,9 +133,9 @@ pub record IsNoPlay (slots : ℕ) (text : List ℕ) (file : Option (Option (List
   pub none : table ≡ None
 
 -- the answers of `judge` to a file, as far as the desk tells the file
-abbrev pub Judges : ℕ → List ℕ → Option (Option (List ℕ)) → Status → List ℕ → Option (List ℕ) → Type 0
+abbrev pub Judges : ℕ → List ℕ → ToldFile → Status → List ℕ → Option (List ℕ) → Type 0
 Judges slots text file status printed table = IsJudged slots text file status printed table ⊎ IsNoPlay slots text file status printed table
 
 -- the answers of `tidy`
-abbrev pub Tidies : ℕ → List ℕ → Option (Option (List ℕ)) → Status → List ℕ → Option (List ℕ) → Type 0
+abbrev pub Tidies : ℕ → List ℕ → ToldFile → Status → List ℕ → Option (List ℕ) → Type 0
 Tidies slots text file status printed table = IsTidied slots text file status printed table ⊎ IsNoPlay slots text file status printed table

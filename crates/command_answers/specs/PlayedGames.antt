@@ -25,7 +25,7 @@ abbrev pub played_for : Planning → GraphParts → PebbleGame
 played_for asked graph = game_of (game_asked asked graph)
 
 -- there is a complete pebbling of this cost
-pub record HasPebbling (game : GameParts) (count : ℕ) : Type 0 where
+pub record HasPebbling (game : GameParts) (cost : ℕ) : Type 0 where
   pub moves : List Move
   pub complete : IsComplete (game_of game) (start (game_of game)) moves
-  pub costs : moves_cost (game_of game) moves ≡ count
+  pub costs : moves_cost (game_of game) moves ≡ cost

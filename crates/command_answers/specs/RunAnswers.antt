@@ -3,7 +3,7 @@
 use Rattle.std.specs.Prelude.{◌≡◌, ◌⊎◌, ℕ, ℤ, List, length, None}
 use Rattle.std.specs.declared.option.Option.{Option}
 use Rattle.comp_graph.specs.Graphs.{GraphParts}
-use Rattle.desk_io.specs.Known.{TellsFile}
+use Rattle.desk_io.specs.Known.{ToldFile, TellsFile}
 use Rattle.kernel_ast.specs.declared.tree.DeclKind.TheVariants.{Input, Output}
 use Rattle.kernel_ast.specs.KernelParts.{KernelParts}
 use Rattle.kernel_ast.specs.Labels.{labels_of}
@@ -24,7 +24,7 @@ IsNoValuesFile kernel = HoldsNone (length (labels_of Input kernel.decls))
 
 -- The text is accepted, the file holds values of its kernel, and the outputs of the source on these values are printed, a line for each
 -- output element with its label, in order of declaration and row by row. No table is written.
-pub record IsValued (text : List ℕ) (file : Option (Option (List ℕ))) (status : Status) (printed : List ℕ) (table : Option (List ℕ)) : Type 0 where
+pub record IsValued (text : List ℕ) (file : ToldFile) (status : Status) (printed : List ℕ) (table : Option (List ℕ)) : Type 0 where
   pub kernel : KernelParts
   pub graph : GraphParts
   pub accepted : IsAccepted text kernel graph
@@ -37,7 +37,7 @@ pub record IsValued (text : List ℕ) (file : Option (Option (List ℕ))) (statu
   pub none : table ≡ None
 
 -- The text is accepted, the file holds no values of its kernel, and the line that says so is printed. No table is written.
-pub record IsWrongValues (text : List ℕ) (file : Option (Option (List ℕ))) (status : Status) (printed : List ℕ) (table : Option (List ℕ)) : Type 0 where
+pub record IsWrongValues (text : List ℕ) (file : ToldFile) (status : Status) (printed : List ℕ) (table : Option (List ℕ)) : Type 0 where
   pub kernel : KernelParts
   pub graph : GraphParts
   pub accepted : IsAccepted text kernel graph
@@ -49,5 +49,5 @@ pub record IsWrongValues (text : List ℕ) (file : Option (Option (List ℕ))) (
   pub none : table ≡ None
 
 -- the two answers to a run on the values of a file, as far as the desk tells the file
-abbrev pub Runs : List ℕ → Option (Option (List ℕ)) → Status → List ℕ → Option (List ℕ) → Type 0
+abbrev pub Runs : List ℕ → ToldFile → Status → List ℕ → Option (List ℕ) → Type 0
 Runs text file status printed table = IsValued text file status printed table ⊎ IsWrongValues text file status printed table

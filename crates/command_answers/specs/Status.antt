@@ -21,19 +21,20 @@ status_number ExecFault = 11
 status_number Play = 12
 
 -- an answer that a command gives where nothing refuses its words or its subject and no call of the desk fails
-abbrev pub is_last : Status → Bool
-is_last Usage = false
-is_last Kernel = false
-is_last TooSmall = false
-is_last ReadFault = false
-is_last WriteFault = false
-is_last NoMemory = false
-is_last Code = false
-is_last status = true
+abbrev pub is_own : Status → Bool
+is_own Usage = false
+is_own Kernel = false
+is_own TooSmall = false
+is_own ReadFault = false
+is_own WriteFault = false
+is_own NoMemory = false
+is_own Code = false
+is_own status = true
 
--- an answer that comes once the whole subject is known: of a command whose subject stands in the input, once the input is read to its end
-abbrev pub IsOfRead : Status → Type 0
-IsOfRead status = (status ≡ TooSmall) ⊎ (is_last status ≡ true)
+-- An answer that needs the whole subject: a command whose subject is in the input gives it once the input is read to its end. A fault of the
+-- kernel or of the code needs no more of it than shows the fault.
+abbrev pub NeedsWholeInput : Status → Type 0
+NeedsWholeInput status = (status ≡ TooSmall) ⊎ (is_own status ≡ true)
 
 -- the result is the status, or one of the three answers that may stand in its place: a read fault, a write fault, want of memory
 abbrev pub IsYielded : Status → Status → Type 0

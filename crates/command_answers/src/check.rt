@@ -1,12 +1,12 @@
 //! The answer of `check`.
 ghost use Rattle.std.specs.Prelude.{◌≡◌, ◌≤◌, ◌<◌, ℕ, List, length, IfOk, None};
-ghost use Rattle.std.specs.declared.option.Option.{Option};
 ghost use Rattle.comp_graph.specs.Dags.{degree};
+ghost use Rattle.comp_graph.specs.Games.{game_of};
 ghost use Rattle.comp_graph.specs.Graphs.{dag_of};
-ghost use Rattle.desk_io.specs.Known.{TellsFile, file_items};
+ghost use Rattle.desk_io.specs.Known.{ToldFile, file_items};
 ghost use Rattle.kernel_ast.specs.KernelParts.{KernelParts};
 ghost use Rattle.command_answers.specs.Accepted.{IsAccepted};
-ghost use Rattle.command_answers.specs.CheckAnswers.{Checks, accepted_text, refused_text};
+ghost use Rattle.command_answers.specs.CheckAnswers.{Checks, IsCheckOf, IsCheckOfFile, accepted_text, refused_text};
 ghost use Rattle.command_answers.specs.MadeAnswers.{Meets, IsFileOf};
 
 use crate::answer::{Answer, FileBytes};
@@ -37,8 +37,8 @@ pub(super) fn accepted(alloc: Global, bound: u32) -> Result<Answer, NoMemory>
     })
 }
 
-// The answer where the file is refused for the reason of this number, by this row.
-pub(super) fn refused(alloc: Global, reason: u8, row: u32) -> Result<Answer, NoMemory>
+/// The answer if the file is refused for the reason of this number, by this row.
+pub fn refused(alloc: Global, reason: u8, row: u32) -> Result<Answer, NoMemory>
     ensures status { IfOk result (λ answer. answer.status ≡ Status.Refused) }
     ensures text { IfOk result (λ answer. answer.text.items ≡ refused_text reason row) }
     ensures none { IfOk result (λ answer. file_items answer.table ≡ None) }
@@ -51,29 +51,51 @@ pub(super) fn refused(alloc: Global, reason: u8, row: u32) -> Result<Answer, NoM
     })
 }
 
-// The answer to a game and the bytes of a file.
-fn table_answer(
-    alloc: Global,
-    game: &Game,
-    asked: Checking,
-    bytes: &[u8],
-) -> Result<Answer, NoMemory>
-    requires slots { game.now.slots ≡ asked.slots }
-    requires weights { game.now.weights ≡ asked.weights }
-    requires room { degree (dag_of game.now.graph) < asked.slots }
-    requires short { length bytes.now ≤ 20000000 }
-    ensures { IfOk result (λ answer. (text : List ℕ) (kernel : KernelParts) (file : Option (Option (List ℕ))) →
-        IsAccepted text kernel game.now.graph → TellsFile file bytes.now →
-        Meets (Checks asked text file) answer) }
+/// What a file proves of a game.
+#[derive(Clone, Copy)]
+pub enum Checked {
+    /// It is a table file of the game, with this bound.
+    Accepted(u32),
+    /// It is refused for the reason of this number, by this row.
+    Refused { reason: u8, row: u32 },
+}
+
+// What the bytes of a file prove of a game.
+fn checked_bytes(alloc: Global, game: &Game, bytes: &[u8]) -> Result<Checked, NoMemory>
+    requires { length bytes.now ≤ 20000000 }
+    ensures { IfOk result (IsCheckOf (game_of game.now) bytes.now) }
 {
     let table = match read_table(alloc, bytes) {
         Ok(table) => table,
-        Err(TableEnd::Shape { .. }) => return refused(alloc, NO_TABLE, 0),
+        Err(TableEnd::Shape { .. }) => {
+            return Ok(Checked::Refused {
+                reason: NO_TABLE,
+                row: 0,
+            });
+        }
         Err(TableEnd::NoMemory) => return Err(NoMemory),
     };
     match check(game, &table) {
-        Ok(bound) => accepted(alloc, bound),
-        Err(Refused { reason, row }) => refused(alloc, reason.number(), row),
+        Ok(bound) => Ok(Checked::Accepted(bound)),
+        Err(Refused { reason, row }) => Ok(Checked::Refused {
+            reason: reason.number(),
+            row,
+        }),
+    }
+}
+
+/// What a file of at most 20,000,000 bytes, or one that is longer, proves of a game: a bound, or why it proves none. It prints nothing.
+pub fn checked_file(alloc: Global, game: &Game, file: &FileBytes) -> Result<Checked, NoMemory>
+    requires { (told : ToldFile) × IsFileOf told 20000000 file.now }
+    ensures { IfOk result (λ checked. (told : ToldFile) → IsFileOf told 20000000 file.now →
+        IsCheckOfFile (game_of game.now) told checked) }
+{
+    match file {
+        FileBytes::Whole(bytes) => checked_bytes(alloc, game, bytes),
+        FileBytes::TooLong => Ok(Checked::Refused {
+            reason: NO_TABLE,
+            row: 0,
+        }),
     }
 }
 
@@ -87,13 +109,14 @@ pub fn check_answer(
     requires slots { game.now.slots ≡ asked.slots }
     requires weights { game.now.weights ≡ asked.weights }
     requires room { degree (dag_of game.now.graph) < asked.slots }
-    requires limit { (held : Option (Option (List ℕ))) × IsFileOf held 20000000 file.now }
-    ensures { IfOk result (λ answer. (text : List ℕ) (kernel : KernelParts) (held : Option (Option (List ℕ))) →
+    requires limit { (held : ToldFile) × IsFileOf held 20000000 file.now }
+    ensures { IfOk result (λ answer. (text : List ℕ) (kernel : KernelParts) (held : ToldFile) →
         IsAccepted text kernel game.now.graph → IsFileOf held 20000000 file.now →
         Meets (Checks asked text held) answer) }
 {
-    match file {
-        FileBytes::Whole(bytes) => table_answer(alloc, game, asked, bytes),
-        FileBytes::TooLong => refused(alloc, NO_TABLE, 0),
+    let checked = checked_file(alloc, game, file)?;
+    match checked {
+        Checked::Accepted(bound) => accepted(alloc, bound),
+        Checked::Refused { reason, row } => refused(alloc, reason, row),
     }
 }

@@ -4,7 +4,7 @@ ghost use Rattle.std.specs.declared.option.Option.{Option};
 ghost use Rattle.comp_graph.specs.Dags.{degree};
 ghost use Rattle.comp_graph.specs.Games.{unit_weights};
 ghost use Rattle.comp_graph.specs.Graphs.{dag_of};
-ghost use Rattle.desk_io.specs.Known.{TellsFile};
+ghost use Rattle.desk_io.specs.Known.{ToldFile, TellsFile};
 ghost use Rattle.kernel_ast.specs.KernelParts.{KernelParts};
 ghost use Rattle.command_answers.specs.Accepted.{IsAccepted};
 ghost use Rattle.command_answers.specs.CoverCheckAnswers.{CoverChecks};
@@ -22,7 +22,7 @@ fn table_answer(alloc: Global, game: &Game, bytes: &[u8]) -> Result<Answer, NoMe
     requires weights { game.now.weights ≡ unit_weights }
     requires room { degree (dag_of game.now.graph) < game.now.slots }
     requires short { length bytes.now ≤ 20000000 }
-    ensures { IfOk result (λ answer. (text : List ℕ) (kernel : KernelParts) (file : Option (Option (List ℕ))) →
+    ensures { IfOk result (λ answer. (text : List ℕ) (kernel : KernelParts) (file : ToldFile) →
         IsAccepted text kernel game.now.graph → TellsFile file bytes.now →
         Meets (CoverChecks game.now.slots text file) answer) }
 {
@@ -42,8 +42,8 @@ fn table_answer(alloc: Global, game: &Game, bytes: &[u8]) -> Result<Answer, NoMe
 pub fn cover_check_answer(alloc: Global, game: &Game, file: &FileBytes) -> Result<Answer, NoMemory>
     requires weights { game.now.weights ≡ unit_weights }
     requires room { degree (dag_of game.now.graph) < game.now.slots }
-    requires limit { (held : Option (Option (List ℕ))) × IsFileOf held 20000000 file.now }
-    ensures { IfOk result (λ answer. (text : List ℕ) (kernel : KernelParts) (held : Option (Option (List ℕ))) →
+    requires limit { (held : ToldFile) × IsFileOf held 20000000 file.now }
+    ensures { IfOk result (λ answer. (text : List ℕ) (kernel : KernelParts) (held : ToldFile) →
         IsAccepted text kernel game.now.graph → IsFileOf held 20000000 file.now →
         Meets (CoverChecks game.now.slots text held) answer) }
 {

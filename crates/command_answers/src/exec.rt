@@ -1,7 +1,7 @@
 //! The answer of `exec`.
 ghost use Rattle.std.specs.Prelude.{◌≡◌, ◌≤◌, ◌++◌, ℕ, List, map, length, IfOk, None};
 ghost use Rattle.std.specs.declared.option.Option.{Option};
-ghost use Rattle.desk_io.specs.Known.{TellsFile, file_items};
+ghost use Rattle.desk_io.specs.Known.{ToldFile, TellsFile, file_items};
 ghost use Rattle.plan_report.specs.OutputsText.{outputs_text};
 ghost use Rattle.scratch_machine.specs.declared.code.OutWord.{OutWord};
 ghost use Rattle.command_answers.specs.CodeInputs.{IsCodeInput};
@@ -68,7 +68,7 @@ fn executed(alloc: Global, code: &Code, ran: &Ran) -> Result<Answer, NoMemory>
 fn values_answer(alloc: Global, code: &Code, bytes: &[u8]) -> Result<Answer, NoMemory>
     requires short { length bytes.now ≤ 1000000 }
     requires input { (text : List ℕ) × IsCodeInput text code.now }
-    ensures { IfOk result (λ answer. (text : List ℕ) (file : Option (Option (List ℕ))) →
+    ensures { IfOk result (λ answer. (text : List ℕ) (file : ToldFile) →
         IsCodeInput text code.now → TellsFile file bytes.now → Meets (Executes text file) answer) }
 {
     let values = match read_values(alloc, bytes) {
@@ -88,9 +88,9 @@ fn values_answer(alloc: Global, code: &Code, bytes: &[u8]) -> Result<Answer, NoM
 /// The answer of `exec` to a code and what its file holds: the outputs of its run on the values, with the number of transfers; where the
 /// run reads what is empty; or that they are no values of the code.
 pub fn exec_answer(alloc: Global, code: &Code, file: &FileBytes) -> Result<Answer, NoMemory>
-    requires limit { (held : Option (Option (List ℕ))) × IsFileOf held 1000000 file.now }
+    requires limit { (held : ToldFile) × IsFileOf held 1000000 file.now }
     requires input { (text : List ℕ) × IsCodeInput text code.now }
-    ensures { IfOk result (λ answer. (text : List ℕ) (held : Option (Option (List ℕ))) →
+    ensures { IfOk result (λ answer. (text : List ℕ) (held : ToldFile) →
         IsCodeInput text code.now → IsFileOf held 1000000 file.now →
         Meets (Executes text held) answer) }
 {

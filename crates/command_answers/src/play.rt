@@ -2,7 +2,7 @@
 ghost use Rattle.std.specs.Prelude.{◌≡◌, ◌≤◌, ℕ, List, length, IfOk, None};
 ghost use Rattle.std.specs.declared.option.Option.{Option};
 ghost use Rattle.comp_graph.specs.Games.{IsGame};
-ghost use Rattle.desk_io.specs.Known.{TellsFile, file_items};
+ghost use Rattle.desk_io.specs.Known.{ToldFile, TellsFile, file_items};
 ghost use Rattle.command_answers.specs.MadeAnswers.{IsFileOf, IsFilePlay, IsPlayOf};
 ghost use Rattle.command_answers.specs.PlayAnswers.{bad_line_text, play_fault_text};
 
@@ -87,8 +87,8 @@ fn bytes_play(alloc: Global, game: &Game, bytes: &[u8]) -> Result<FilePlay, NoMe
 
 // What a file holds.
 pub(crate) fn file_play(alloc: Global, game: &Game, file: &FileBytes) -> Result<FilePlay, NoMemory>
-    requires limit { (held : Option (Option (List ℕ))) × IsFileOf held 20000000 file.now }
-    ensures play { IfOk result (λ play. (held : Option (Option (List ℕ))) → IsFileOf held 20000000 file.now → IsFilePlay game.now held play) }
+    requires limit { (held : ToldFile) × IsFileOf held 20000000 file.now }
+    ensures play { IfOk result (λ play. (held : ToldFile) → IsFileOf held 20000000 file.now → IsFilePlay game.now held play) }
 {
     match file {
         FileBytes::Whole(bytes) => bytes_play(alloc, game, bytes),

@@ -2,7 +2,7 @@
 ghost use Rattle.std.specs.Prelude.{◌≡◌, ◌≤◌, ℕ, List, map, length, IfOk, None};
 ghost use Rattle.std.specs.declared.option.Option.{Option};
 ghost use Rattle.comp_graph.specs.declared.node.Output.{Output};
-ghost use Rattle.desk_io.specs.Known.{TellsFile, file_items};
+ghost use Rattle.desk_io.specs.Known.{ToldFile, TellsFile, file_items};
 ghost use Rattle.plan_report.specs.OutputsText.{outputs_text};
 ghost use Rattle.command_answers.specs.Accepted.{IsAccepted};
 ghost use Rattle.command_answers.specs.MadeAnswers.{Meets, IsFileOf};
@@ -50,7 +50,7 @@ fn valued(alloc: Global, graph: &Graph, outputs: &[i64]) -> Result<Answer, NoMem
 fn values_answer(alloc: Global, accepted: &Accepted, bytes: &[u8]) -> Result<Answer, NoMemory>
     requires short { length bytes.now ≤ 1000000 }
     requires accepted { (text : List ℕ) × IsAccepted text accepted.now.kernel accepted.now.graph }
-    ensures { IfOk result (λ answer. (text : List ℕ) (file : Option (Option (List ℕ))) →
+    ensures { IfOk result (λ answer. (text : List ℕ) (file : ToldFile) →
         IsAccepted text accepted.now.kernel accepted.now.graph → TellsFile file bytes.now →
         Meets (Runs text file) answer) }
 {
@@ -70,9 +70,9 @@ fn values_answer(alloc: Global, accepted: &Accepted, bytes: &[u8]) -> Result<Ans
 
 /// The answer of `run` to an accepted kernel and what its file holds: the outputs on the values, or that they are no values of the kernel.
 pub fn run_answer(alloc: Global, accepted: &Accepted, file: &FileBytes) -> Result<Answer, NoMemory>
-    requires limit { (held : Option (Option (List ℕ))) × IsFileOf held 1000000 file.now }
+    requires limit { (held : ToldFile) × IsFileOf held 1000000 file.now }
     requires accepted { (text : List ℕ) × IsAccepted text accepted.now.kernel accepted.now.graph }
-    ensures { IfOk result (λ answer. (text : List ℕ) (held : Option (Option (List ℕ))) →
+    ensures { IfOk result (λ answer. (text : List ℕ) (held : ToldFile) →
         IsAccepted text accepted.now.kernel accepted.now.graph → IsFileOf held 1000000 file.now →
         Meets (Runs text held) answer) }
 {

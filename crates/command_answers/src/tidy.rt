@@ -4,7 +4,7 @@ ghost use Rattle.std.specs.declared.option.Option.{Option};
 ghost use Rattle.comp_graph.specs.Dags.{degree};
 ghost use Rattle.comp_graph.specs.Games.{game_of, unit_weights};
 ghost use Rattle.comp_graph.specs.Graphs.{dag_of};
-ghost use Rattle.desk_io.specs.Known.{file_items};
+ghost use Rattle.desk_io.specs.Known.{ToldFile, file_items};
 ghost use Rattle.kernel_ast.specs.KernelParts.{KernelParts};
 ghost use Rattle.normal_steps.specs.Plans.{PlanParts};
 ghost use Rattle.pebble_rules.specs.Refusals.{vertex_of};
@@ -53,8 +53,8 @@ fn tidied(alloc: Global, game: &Game, moves: &[Move], cost: u32) -> Result<Answe
 pub fn tidy_answer(alloc: Global, game: &Game, file: &FileBytes) -> Result<Answer, NoMemory>
     requires weights { game.now.weights ≡ unit_weights }
     requires room { degree (dag_of game.now.graph) < game.now.slots }
-    requires limit { (held : Option (Option (List ℕ))) × IsFileOf held 20000000 file.now }
-    ensures { IfOk result (λ answer. (text : List ℕ) (kernel : KernelParts) (held : Option (Option (List ℕ))) →
+    requires limit { (held : ToldFile) × IsFileOf held 20000000 file.now }
+    ensures { IfOk result (λ answer. (text : List ℕ) (kernel : KernelParts) (held : ToldFile) →
         IsAccepted text kernel game.now.graph → IsFileOf held 20000000 file.now →
         Meets (Tidies game.now.slots text held) answer) }
 {

@@ -59,8 +59,8 @@ fn value(word: &str) -> Option<u32>
     word.parse::<u32>().ok()
 }
 
-// The number from low to high that the word spells in plain decimal.
-fn number(low: u32, high: u32, word: &str) -> Option<u32>
+/// The number from low to high that the word spells in plain decimal.
+pub fn number(low: u32, high: u32, word: &str) -> Option<u32>
     ensures value { result ≡ number low high word.now }
     ensures limits { IfSome result (λ n. (low ≤ n) × (n ≤ high)) }
 {
@@ -75,8 +75,8 @@ fn number(low: u32, high: u32, word: &str) -> Option<u32>
     }
 }
 
-// The weights of a load and a store that two words spell.
-fn weights(load: &str, store: &str) -> Option<Weights>
+/// The weights of a load and a store that two words spell, each from 1 to 16.
+pub fn weights(load: &str, store: &str) -> Option<Weights>
     ensures value { result ≡ weights_by load.now store.now }
     ensures limits { IfSome result AreWeights }
 {
@@ -308,8 +308,8 @@ fn trial(statements: &str, slots: &str, table: &str) -> Option<Command>
     }))
 }
 
-// The slots, where the file's name is not empty.
-fn slots_with(slots: &str, file: &str) -> Option<u16>
+/// The number of slots, from 1 to 64, that a word spells, if the file's name is not empty.
+pub fn slots_with(slots: &str, file: &str) -> Option<u16>
     ensures value { result ≡ slots_with (number 1 64 slots.now) file.now }
     ensures limits { IfSome result (λ n. (1 ≤ n) × (n ≤ 64)) }
 {
@@ -336,8 +336,8 @@ pub fn file_word(words: &[String]) -> &str
     }
 }
 
-// The word at the place, or the empty text where there is none.
-fn word_at(words: &[String], place: usize) -> &str
+/// The word at the place, or the empty text where there is none.
+pub fn word_at(words: &[String], place: usize) -> &str
     ensures { result.now ≡ word_at place (map string_bytes words.now) }
 {
     match words.get(place) {

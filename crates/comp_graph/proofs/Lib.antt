@@ -7,3 +7,5 @@ pub mod Live
 pub mod Degree
 pub mod GraphLaws
 pub mod Calls
+pub mod Lists
+pub mod Appended

@@ -3,7 +3,7 @@ use Rattle.std.proofs.Common.{◌≡◌, ℕ, ◌+◌, ◌-◌, ◌≤◌, ◌<�
 use Rattle.std.specs.Ordering.{nat_cmp}
 use Rattle.std.specs.Cmp.{nat_cmp_total}
 use Rattle.std.specs.FinSet as set
-use Rattle.std.proofs.lemmas.Bool.{cases_Bool, cases_lt, and_left, and_parts, le-ltb, ltb-true}
+use Rattle.std.proofs.lemmas.Bool.{cases_Bool, cases_lt, and_left, and_parts, and_from, le-ltb, ltb-true}
 use Rattle.comp_graph.specs.Vertices.{Vertices, ◌∈◌, ◌∉◌, IsWithin, IsOutside, size, AllBelow, set_below, count_below}
 use Rattle.comp_graph.specs.Sets.{same, membership, has_set_below}
 
@@ -32,6 +32,22 @@ insert_cases s k q h = grind (arith, membership)
 pub insert_old : (s : Vertices) (k : ℕ) → k ∈ s → set.insert s k ≡ s
 insert_old s k h = same _ _ (λ q. grind (arith, membership))
 
+pub in_removed : (s : Vertices) (k q : ℕ) → q ∈ set.remove s k → q ∈ s
+in_removed s k q h = grind (arith, membership)
+
+pub either_two : (s t : Vertices) (q : ℕ) → q ∈ set.union s t → (q ∈ s) ⊎ (q ∈ t)
+either_two s t q h = grind (arith, membership)
+
+-- the members of a union and one more vertex, as after Work
+pub worked_cases : (s t : Vertices) (k q : ℕ) → q ∈ set.insert (set.union s t) k → (q ≡ k) ⊎ ((q ∈ s) ⊎ (q ∈ t))
+worked_cases s t k q h = grind (arith, membership)
+
+pub in_both : (s t : Vertices) (q : ℕ) → q ∈ s → q ∈ t → q ∈ set.intersection s t
+in_both s t q a b = grind (arith, membership)
+
+both_first : (s t : Vertices) (q : ℕ) → q ∈ set.intersection s t → q ∈ s
+both_first s t q h = grind (arith, membership)
+
 both_second : (s t : Vertices) (q : ℕ) → q ∈ set.intersection s t → q ∈ t
 both_second s t q h = grind (arith, membership)
 
@@ -40,6 +56,22 @@ difference_first s t q h = grind (arith, membership)
 
 pub difference_second : (s t : Vertices) (q : ℕ) → q ∈ set.difference s t → q ∉ t
 difference_second s t q h = grind (arith, membership)
+
+pub both_parts : (s t : Vertices) (q : ℕ) → q ∈ set.intersection s t → (q ∈ s) × (q ∈ t)
+both_parts s t q h = (both_first s t q h, both_second s t q h)
+
+pub left_parts : (s t : Vertices) (q : ℕ) → q ∈ set.difference s t → (q ∈ s) × (q ∉ t)
+left_parts s t q h = (difference_first s t q h, difference_second s t q h)
+
+pub in_difference : (s t : Vertices) (q : ℕ) → q ∈ s → q ∉ t → q ∈ set.difference s t
+in_difference s t q a b = grind (arith, membership)
+
+-- a vertex that cannot be in t as well as in s is outside t
+pub outside_of : (s t : Vertices) (q : ℕ) → (q ∈ t → q ∈ s → ⊥) → q ∈ s → q ∉ t
+outside_of s t q apart h = elim (cases_Bool (set.contains t q)) as (λ _. q ∉ t) [
+  | inl is ↦ absurd (apart is h)
+  | inr out ↦ out
+]
 
 union_insert : (s t : Vertices) (k : ℕ) → set.union s (set.insert t k) ≡ set.insert (set.union s t) k
 union_insert s t k = same _ _ (λ q. grind (arith, membership))
@@ -140,6 +172,15 @@ some_member = by_insert (λ s. 0 < size s → (v : ℕ) × (v ∈ s))
 pub no_member : (s : Vertices) → size s ≡ 0 → s ≡ set.empty
 no_member s h = set.empty_of_len s h
 
+pub within_if_none : (s t : Vertices) → size (set.difference s t) ≡ 0 → IsWithin s t
+within_if_none s t none q h = elim (cases_Bool (set.contains t q)) as (λ _. q ∈ t) [
+  | inl is ↦ is
+  | inr out ↦ absurd (
+      let at = ap (λ d. set.contains d q) (no_member (set.difference s t) none) in
+      let left = in_difference s t q h out in
+      grind (arith, membership))
+]
+
 -- the larger of two sets has a member that the other lacks
 pub member_outside : (s t : Vertices) → size s < size t → (v : ℕ) × (v ∈ t) × (v ∉ s)
 member_outside s t h =
@@ -192,6 +233,23 @@ size_set_below p (suc n) =
           omega (arith, size_insert_new (set_below p n) n fresh, size_set_below p n)
       | false ↦ omega (arith, size_set_below p n)
     ]
+
+pub in_set_below : (n : ℕ) (test : ℕ → Bool) (q : ℕ) → q < n → test q ≡ true → q ∈ set_below test n
+in_set_below n test q l h = has_set_below test n q ∙ and_from (ltb q n) (test q) (true_ltb q n l) h
+  where
+    true_ltb : (q n : ℕ) → q < n → ltb q n ≡ true
+    true_ltb q n l = grind arith
+
+-- a member is below n, and passes the test
+pub set_below_parts : (n : ℕ) (test : ℕ → Bool) (q : ℕ) → q ∈ set_below test n → (q < n) × (test q ≡ true)
+set_below_parts n test q h = let both = and_parts (ltb q n) (test q) (sym (has_set_below test n q) ∙ h) in (ltb-true q n both.0, both.1)
+
+-- a number below n outside the set fails the test
+pub not_set_below : (n : ℕ) (test : ℕ → Bool) (q : ℕ) → q < n → q ∉ set_below test n → test q ≡ false
+not_set_below n test q l h = elim (cases_Bool (test q)) as (λ _. test q ≡ false) [
+  | inl is ↦ absurd (let has = in_set_below n test q l is in grind arith)
+  | inr fails ↦ fails
+]
 
 pub AllBelow-set_below : (p : ℕ → Bool) (n : ℕ) → AllBelow n (set_below p n)
 AllBelow-set_below p n = record { below = λ v e. ltb-true v n (and_parts (ltb v n) (p v) (sym (has_set_below p n v) ∙ e)).0 }

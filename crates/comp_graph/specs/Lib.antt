@@ -1,5 +1,6 @@
--- The definitions of this crate: sets of vertices, operations, graphs, games.
+-- The definitions of this crate: sets of vertices, members of lists, operations, graphs, games.
 pub mod Vertices
+pub mod Lists
 pub mod Sets
 pub mod Words
 pub mod WordLaws

@@ -1,5 +1,5 @@
 -- The operations: how many operands each takes, its word, and its value on 64-bit two's complement numbers.
-use Rattle.std.specs.Prelude.{ℕ, ℤ, List, codes, pos, ◌+ℤ◌, ◌-ℤ◌, ◌*ℤ◌, neg_ℤ, cond}
+use Rattle.std.specs.Prelude.{ℕ, ℤ, List, codes, pos, ◌+ℤ◌, ◌-ℤ◌, ◌*ℤ◌, neg_ℤ, cond, slice_index_or}
 use Rattle.std.specs.Int.{w64, int_wrap, int_bit_and, int_bit_or, int_bit_xor, int_min, int_max}
 use Rattle.std.specs.Ordering.{int_eq}
 use Rattle.comp_graph.specs.declared.operation.Op.{Op}
@@ -56,3 +56,7 @@ value_of Min a b c = int_min a b
 value_of Max a b c = int_max a b
 value_of Sel a b c = cond (int_eq a (pos 0)) c b
 value_of Mad a b c = wrapped ((a *ℤ b) +ℤ c)
+
+-- the value of an operation at the first numbers of a list, with 0 in place of each that is missing
+abbrev pub value_at : Op → List ℤ → ℤ
+value_at op xs = value_of op (slice_index_or xs 0 (pos 0)) (slice_index_or xs 1 (pos 0)) (slice_index_or xs 2 (pos 0))

@@ -22,7 +22,7 @@ use Rattle.normal_steps.specs.declared.step.Step.TheVariants.{Work, Drop, Spill}
 use Rattle.normal_steps.proofs.Simulation.{start_follows}
 use Rattle.normal_steps.proofs.Sound.{step_sound}
 use Rattle.normal_steps.proofs.StepTestLaws.{legal_steps_are_listed}
-use Rattle.forced_bounds.specs.Lists.{IsIn}
+use Rattle.comp_graph.specs.Lists.{IsIn}
 use Rattle.forced_bounds.specs.FloorLaws.{FloorIsBelowPlays}
 use Rattle.cover_cert.specs.Covers.{Covers}
 use Rattle.potential_cert.specs.Places.{IsAt}
@@ -30,7 +30,7 @@ use Rattle.cover_cert.specs.declared.tables.Cover.{Cover}
 use Rattle.cover_cert.specs.CoverTable.{CoverRowParts, IsNamed, IsCoveredBy, IsCoverTable, StepHolds, plain}
 use Rattle.cover_cert.specs.CoverLaws.{CoverBoundIsBelowPlays, CoverBoundIsBelowPebblings}
 use Rattle.cover_cert.proofs.Covered.{live_in, in_live, covers_follows, covers_start, covering_costs_no_more}
-use Rattle.potential_cert.proofs.Places.{at_in, contains_at}
+use Rattle.potential_cert.proofs.Places.{at_in, in_at}
 use Rattle.search_laws.proofs.Lists.{map_in}
 
 -- ---- what gets less
@@ -103,7 +103,7 @@ named_or_not (n ∷ ns) k = elim (same_or_not n.step k) [
 
 -- the place of a legal step
 place_of : (g : PebbleGame) → IsDag g.dag → (p : Position) → IsSound g p → (s : Step) → IsStep g p s → (k : ℕ) × IsAt s k (legal_steps g p)
-place_of g dag p sound s step = contains_at (legal_steps g p) s (((legal_steps_are_listed g dag p sound.red_below).legal s).1 step)
+place_of g dag p sound s step = in_at s (legal_steps g p) (((legal_steps_are_listed g dag p sound.red_below).legal s).1 step)
 
 -- each step comes before the play that begins with it
 less_after : (g : PebbleGame) (p : Position) (s : Step) (ss : List Step) → IsStep g p s → IsLess g (stepped g p s) ss p (s ∷ ss)

@@ -6,11 +6,12 @@ use Rattle.potential_cert.proofs.Places.{at_in}
 use Rattle.cert_checker.specs.declared.refusal.Reason.{Reason}
 use Rattle.cert_checker.specs.declared.refusal.Reason.TheVariants.{Graph, Slots, Weights, Order, Position, Start, Cover, Step, Finish}
 use Rattle.cert_checker.specs.declared.refusal.Refused.{Refused}
-use Rattle.cert_checker.specs.Refusals.{FinishHolds, place_of_reason}
+use Rattle.potential_cert.specs.Table.{FinishHolds}
+use Rattle.cert_checker.specs.Refusals.{place_of_reason}
 use Rattle.cert_checker.proofs.Checked.{each_in, fall_refutes}
 use Rattle.cert_checker.proofs.OneRefusal.{at_its_place, compared, one_fall, one_lack, reason_at}
 use Rattle.cover_cert.specs.CoverTable.{CoverTableParts, IsCoverTableOf, NamesHold, StepsHold, plain, plain_rows}
-use Rattle.cover_cert.specs.Refusals.{Breaks, CoverRefusalIsOne, IsCoverRefusal, Passes, PassesBefore, RefusedIsNoCoverTable}
+use Rattle.cover_cert.specs.Refusals.{GivesReason, CoverRefusalIsOne, IsCoverRefusal, Passes, PassesBefore, RefusedIsNoCoverTable}
 
 -- ---- reasons in order
 
@@ -64,19 +65,19 @@ refused_as g t r reason k reason_is row_is is = subst (IsCoverRefusal g t r.reas
 -- ---- a table that gives a reason is none
 
 pub refused_is_no_cover_table : RefusedIsNoCoverTable
-refused_is_no_cover_table g t Graph k is table = is.breaks.1 table.vertices
-refused_is_no_cover_table g t Slots k is table = is.breaks.1 table.slots
-refused_is_no_cover_table g t Weights k is table = is.breaks.1 (table.load, table.store)
-refused_is_no_cover_table g t Order k is table = fall_refutes (plain_rows t.rows) k is.breaks table.holds.rise
-refused_is_no_cover_table g t Position k is table = is.breaks.lacks (table.holds.sound is.breaks.row (at_in is.breaks.row k t.rows is.breaks.at))
-refused_is_no_cover_table g t Start k is table = is.breaks.1 table.holds.starts
-refused_is_no_cover_table g t Cover k is table = is.breaks.lacks (table.holds.names is.breaks.row (at_in is.breaks.row k t.rows is.breaks.at))
-refused_is_no_cover_table g t Step k is table = is.breaks.lacks (table.holds.steps is.breaks.row (at_in is.breaks.row k t.rows is.breaks.at))
-refused_is_no_cover_table g t Finish k is table = is.breaks.lacks (table.holds.finishes is.breaks.row (at_in is.breaks.row k t.rows is.breaks.at))
+refused_is_no_cover_table g t Graph k is table = is.gives.1 table.vertices
+refused_is_no_cover_table g t Slots k is table = is.gives.1 table.slots
+refused_is_no_cover_table g t Weights k is table = is.gives.1 (table.load, table.store)
+refused_is_no_cover_table g t Order k is table = fall_refutes (plain_rows t.rows) k is.gives table.holds.rise
+refused_is_no_cover_table g t Position k is table = is.gives.lacks (table.holds.sound is.gives.row (at_in is.gives.row k t.rows is.gives.at))
+refused_is_no_cover_table g t Start k is table = is.gives.1 table.holds.starts
+refused_is_no_cover_table g t Cover k is table = is.gives.lacks (table.holds.names is.gives.row (at_in is.gives.row k t.rows is.gives.at))
+refused_is_no_cover_table g t Step k is table = is.gives.lacks (table.holds.steps is.gives.row (at_in is.gives.row k t.rows is.gives.at))
+refused_is_no_cover_table g t Finish k is table = is.gives.lacks (table.holds.finishes is.gives.row (at_in is.gives.row k t.rows is.gives.at))
 
 -- ---- one reason, one row
 
-one_row : (g : PebbleGame) (t : CoverTableParts) (reason : Reason) (j k : ℕ) → Breaks g t reason j → Breaks g t reason k → j ≡ k
+one_row : (g : PebbleGame) (t : CoverTableParts) (reason : Reason) (j k : ℕ) → GivesReason g t reason j → GivesReason g t reason k → j ≡ k
 one_row g t Graph j k a b = a.0 ∙ sym b.0
 one_row g t Slots j k a b = a.0 ∙ sym b.0
 one_row g t Weights j k a b = a.0 ∙ sym b.0
@@ -88,7 +89,7 @@ one_row g t Step j k a b = one_lack _ t.rows j k a b
 one_row g t Finish j k a b = one_lack _ t.rows j k a b
 
 -- a reason that a table gives is none that it passes
-breaks_refute : (g : PebbleGame) (t : CoverTableParts) (reason : Reason) (k : ℕ) → Breaks g t reason k → Passes g t reason → ⊥
+breaks_refute : (g : PebbleGame) (t : CoverTableParts) (reason : Reason) (k : ℕ) → GivesReason g t reason k → Passes g t reason → ⊥
 breaks_refute g t Graph k is passes = is.1 passes
 breaks_refute g t Slots k is passes = is.1 passes
 breaks_refute g t Weights k is passes = is.1 passes
@@ -101,12 +102,12 @@ breaks_refute g t Finish k is passes = is.lacks (passes k is.row is.at)
 
 one_reason : (g : PebbleGame) (t : CoverTableParts) (a b : Reason) (j k : ℕ) → IsCoverRefusal g t a j → IsCoverRefusal g t b k → a ≡ b
 one_reason g t a b j k is other = elim (compared (place_of_reason a) (place_of_reason b)) [
-  | inl less ↦ absurd (breaks_refute g t a j is.breaks (other.first a less))
+  | inl less ↦ absurd (breaks_refute g t a j is.gives (other.first a less))
   | inr (inl same) ↦ sym (at_its_place a) ∙ ap reason_at same ∙ at_its_place b
-  | inr (inr more) ↦ absurd (breaks_refute g t b k other.breaks (is.first b more))
+  | inr (inr more) ↦ absurd (breaks_refute g t b k other.gives (is.first b more))
 ]
 
 pub cover_refusal_is_one : CoverRefusalIsOne
 cover_refusal_is_one g t a b j k is other =
     let same = one_reason g t a b j k is other in
-    (same, one_row g t b j k (subst (λ r. Breaks g t r j) same is.breaks) other.breaks)
+    (same, one_row g t b j k (subst (λ r. GivesReason g t r j) same is.gives) other.gives)

@@ -11,16 +11,15 @@ use Rattle.normal_steps.specs.Sound.{IsSound}
 use Rattle.normal_steps.specs.Steps.{step_cost, stepped}
 use Rattle.normal_steps.specs.StepTests.{legal_steps}
 use Rattle.forced_bounds.specs.Floor.{floor}
-use Rattle.forced_bounds.specs.Lists.{IsIn}
+use Rattle.comp_graph.specs.Lists.{IsIn}
 use Rattle.potential_cert.specs.Places.{IsAt}
-use Rattle.potential_cert.specs.Table.{offer}
+use Rattle.potential_cert.specs.Table.{offer, FinishHolds}
 use Rattle.potential_cert.proofs.Places.{at_one}
 use Rattle.cert_checker.specs.declared.refusal.Reason.TheVariants as reasons
-use Rattle.cert_checker.specs.Refusals.{FinishHolds}
 use Rattle.cert_checker.proofs.Decided.{Decided, at_most, both, by_test, either, finish_holds, first_or_each, rise_or_fall, row_within, sound}
 use Rattle.cover_cert.specs.declared.tables.Cover.{Cover}
 use Rattle.cover_cert.specs.Covers.{Covers, is_covered_by}
-use Rattle.cover_cert.specs.CoverTable.{CanBeNamed, CoverRowParts, CoverTableParts, HasFreeRow, IsCoveredBy, IsNamed, NamesHold, PlacesRise, StartHolds, StepHolds, StepsHold, plain, plain_rows}
+use Rattle.cover_cert.specs.CoverTable.{CanBeNamed, CoverRowParts, CoverTableParts, IsCoveredBy, IsNamed, NamesHold, PlacesRise, StartHolds, StepHolds, StepsHold, plain, plain_rows}
 use Rattle.cover_cert.specs.Refusals.{CoverTableIsJudged, CoverTableOrRefusal, Passes, PassesBefore}
 use Rattle.cover_cert.proofs.Checked.{before_cover, before_finish, before_order, before_position, before_start, before_step, passes_all}
 use Rattle.cover_cert.proofs.Covered.{covers_is_tested}
@@ -142,37 +141,37 @@ steps_hold g rows bound r = each_at_or_not (λ k s. (IsNamed r.names k → ⊥) 
 by_finish : (g : PebbleGame) (t : CoverTableParts) → PassesBefore g t 8 → CoverTableIsJudged g t
 by_finish g t before = elim (first_or_each (λ (r : CoverRowParts). FinishHolds g t.bound (plain r)) t.rows (λ r i. finish_holds g t.bound (plain r))) [
   | inl all ↦ inl (passes_all g t before all)
-  | inr first ↦ inr (reasons.Finish, first.0, record { breaks = first.1; first = before })
+  | inr first ↦ inr (reasons.Finish, first.0, record { gives = first.1; first = before })
 ]
 
 by_step : (g : PebbleGame) (t : CoverTableParts) → PassesBefore g t 7 → CoverTableIsJudged g t
 by_step g t before = elim (first_or_each (StepsHold g t.rows t.bound) t.rows (λ r i. steps_hold g t.rows t.bound r)) [
   | inl all ↦ by_finish g t (before_finish g t before all)
-  | inr first ↦ inr (reasons.Step, first.0, record { breaks = first.1; first = before })
+  | inr first ↦ inr (reasons.Step, first.0, record { gives = first.1; first = before })
 ]
 
 by_names : (g : PebbleGame) → IsDag g.dag → (t : CoverTableParts) → PassesBefore g t 6 → CoverTableIsJudged g t
 by_names g dag t before = elim (first_or_each (NamesHold g t.rows) t.rows (λ r i. names_hold g dag t.rows r)) [
   | inl all ↦ by_step g t (before_step g t before all)
-  | inr first ↦ inr (reasons.Cover, first.0, record { breaks = first.1; first = before })
+  | inr first ↦ inr (reasons.Cover, first.0, record { gives = first.1; first = before })
 ]
 
 by_start : (g : PebbleGame) → IsDag g.dag → (t : CoverTableParts) → PassesBefore g t 5 → CoverTableIsJudged g t
 by_start g dag t before = elim (start_holds g t.rows t.bound) [
   | inl holds ↦ by_names g dag t (before_cover g t before holds)
-  | inr not ↦ inr (reasons.Start, 0, record { breaks = (refl, not); first = before })
+  | inr not ↦ inr (reasons.Start, 0, record { gives = (refl, not); first = before })
 ]
 
 by_position : (g : PebbleGame) → IsDag g.dag → (t : CoverTableParts) → PassesBefore g t 4 → CoverTableIsJudged g t
 by_position g dag t before = elim (first_or_each (λ (r : CoverRowParts). IsSound g r.position) t.rows (λ r i. sound g r.position)) [
   | inl all ↦ by_start g dag t (before_start g t before all)
-  | inr first ↦ inr (reasons.Position, first.0, record { breaks = first.1; first = before })
+  | inr first ↦ inr (reasons.Position, first.0, record { gives = first.1; first = before })
 ]
 
 by_order : (g : PebbleGame) → IsDag g.dag → (t : CoverTableParts) → PassesBefore g t 3 → CoverTableIsJudged g t
 by_order g dag t before = elim (rise_or_fall (plain_rows t.rows)) [
   | inl rise ↦ by_position g dag t (before_position g t before rise)
-  | inr fall ↦ inr (reasons.Order, fall.0, record { breaks = fall.1; first = before })
+  | inr fall ↦ inr (reasons.Order, fall.0, record { gives = fall.1; first = before })
 ]
 
 -- the numbers: none is looked at before that of the vertices
@@ -189,9 +188,9 @@ before_weights g t vertices slots reasons.Slots less = slots
 before_weights g t vertices slots e less = absurd (omega arith)
 
 by_numbers : (g : PebbleGame) → IsDag g.dag → (t : CoverTableParts) → Decided (t.vertices ≡ g.dag.count) → Decided (t.slots ≡ g.slots) → Decided ((t.load ≡ g.load) × (t.store ≡ g.store)) → CoverTableIsJudged g t
-by_numbers g dag t (inr not) slots weights = inr (reasons.Graph, 0, record { breaks = (refl, not); first = before_graph g t })
-by_numbers g dag t (inl vertices) (inr not) weights = inr (reasons.Slots, 0, record { breaks = (refl, not); first = before_slots g t vertices })
-by_numbers g dag t (inl vertices) (inl slots) (inr not) = inr (reasons.Weights, 0, record { breaks = (refl, not); first = before_weights g t vertices slots })
+by_numbers g dag t (inr not) slots weights = inr (reasons.Graph, 0, record { gives = (refl, not); first = before_graph g t })
+by_numbers g dag t (inl vertices) (inr not) weights = inr (reasons.Slots, 0, record { gives = (refl, not); first = before_slots g t vertices })
+by_numbers g dag t (inl vertices) (inl slots) (inr not) = inr (reasons.Weights, 0, record { gives = (refl, not); first = before_weights g t vertices slots })
 by_numbers g dag t (inl vertices) (inl slots) (inl weights) = by_order g dag t (before_order g t vertices slots weights)
 
 pub cover_table_or_refusal : CoverTableOrRefusal

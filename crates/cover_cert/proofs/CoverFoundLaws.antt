@@ -1,5 +1,5 @@
 -- What a search that is done answers.
-use Rattle.std.proofs.Common.{◌≡◌, ℕ, ◌+◌, ◌*◌, ◌-◌, ◌≤◌, ◌<◌, ◌≢◌, List, [], ◌∷◌, map, length, ◌⊎◌, inl, inr, ◌↔◌, refl, sym, ap, ◌∙◌, subst, arith}
+use Rattle.std.proofs.Common.{◌≡◌, ℕ, ◌*◌, ◌-◌, ◌≤◌, ◌<◌, ◌≢◌, List, [], map, length, ◌↔◌, sym, ap, ◌∙◌, subst, arith}
 use Rattle.std.specs.Prelude.{◌^◌}
 use Rattle.comp_graph.specs.Vertices.{size}
 use Rattle.comp_graph.specs.Dags.{IsDag}
@@ -10,12 +10,11 @@ use Rattle.normal_steps.specs.Plans.{IsPlan, PlanParts}
 use Rattle.normal_steps.specs.Sound.{IsSound}
 use Rattle.normal_steps.specs.Steps.{IsFinishing, total_cost}
 use Rattle.normal_steps.specs.declared.step.Step.{Step}
-use Rattle.forced_bounds.specs.Lists.{IsIn}
+use Rattle.comp_graph.specs.Lists.{IsIn}
 use Rattle.forced_bounds.specs.FloorLaws.{FloorOfFinish}
 use Rattle.potential_cert.specs.declared.tables.Row.{Row}
 use Rattle.potential_cert.specs.Order.{precedes}
 use Rattle.potential_cert.specs.Table.{IsRising}
-use Rattle.potential_cert.specs.TableLaws.{HaveSameMembers}
 use Rattle.search_laws.specs.Search.{begun}
 use Rattle.search_laws.proofs.Lists.{in_map}
 use Rattle.search_laws.specs.Packing.{Store, Best}
@@ -25,13 +24,12 @@ use Rattle.branch_bound.specs.declared.searching.Verdict.TheVariants.{Optimal, O
 use Rattle.branch_bound.proofs.RowLaws.{same_rows}
 use Rattle.std.proofs.lemmas.List.Sorted.{IsPermutation-map}
 use Rattle.cover_cert.specs.declared.making.Made.{Made}
-use Rattle.cover_cert.specs.declared.making.Name.{Name}
 use Rattle.cover_cert.specs.declared.searching.CoverFound.{CoverFound}
 use Rattle.cover_cert.specs.CoverAnswer.{AreCoverRows}
 use Rattle.cover_cert.specs.CoverFounds.{IsCoverFound, IsCoverSearchedTable}
-use Rattle.cover_cert.specs.CoverMaking.{full_row, made_namings, made_row, made_rows, naming_of, numbered_name}
+use Rattle.cover_cert.specs.CoverMaking.{full_row, made_row, made_rows, naming_of}
 use Rattle.cover_cert.specs.CoverNumbers.{AreKnown, AreNumbered, CanBeOrdered}
-use Rattle.cover_cert.specs.CoverSearch.{CoverSearch, cover_rows, cover_searched, namings_of, numbered, rows_covered, with_names}
+use Rattle.cover_cert.specs.CoverSearch.{CoverSearch, cover_searched, numbered, rows_covered, with_names}
 use Rattle.cover_cert.specs.CoverSearchLaws.{IsCoverNoWorse}
 use Rattle.cover_cert.specs.CoverSupport.{cover_support}
 use Rattle.cover_cert.specs.CoverTable.{CoverRowParts, CoverTableParts, IsCoverSupport, IsCoverTable, plain_rows}

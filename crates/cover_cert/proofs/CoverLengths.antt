@@ -1,5 +1,5 @@
 -- How long a covered table of a game is: a row has at most 384 names, so at most 2,374 bytes.
-use Rattle.std.proofs.Common.{◌≡◌, ◌⊎◌, ℕ, suc, ◌+◌, ◌*◌, ◌≤◌, ◌<◌, Bool, true, false, cond, List, [], ◌∷◌, ◌++◌, length, inl, inr, refl, sym, ap, ◌∙◌, subst, arith}
+use Rattle.std.proofs.Common.{ℕ, suc, ◌+◌, ◌*◌, ◌≤◌, ◌<◌, Bool, true, false, cond, List, [], ◌∷◌, length, inl, inr, refl, ap, ◌∙◌, arith}
 use Rattle.std.specs.Prelude.{flat_map}
 use Rattle.std.specs.FinSet as set
 use Rattle.std.proofs.lemmas.Bool.Decides.{nat_tests}
@@ -7,18 +7,18 @@ use Rattle.std.proofs.lemmas.List.{length-append}
 use Rattle.byteorder.specs.Numbers.{length-bytes_high_first}
 use Rattle.comp_graph.specs.Games.{PebbleGame}
 use Rattle.comp_graph.specs.Sets.{has_set_below, membership}
-use Rattle.comp_graph.specs.Vertices.{AllBelow, IsWithin, Vertices, ◌∈◌, size}
+use Rattle.comp_graph.specs.Vertices.{AllBelow, IsWithin}
 use Rattle.comp_graph.proofs.Sets.{difference_first, size_le_below, size_within}
 use Rattle.pebble_rules.specs.declared.position.Position.{Position}
 use Rattle.normal_steps.specs.Sound.{IsSound}
 use Rattle.normal_steps.specs.StepTests.{can_work, drops_of, is_crowded, legal_steps, spills_of, works_of}
 use Rattle.normal_steps.proofs.Listed.{length-listed}
-use Rattle.forced_bounds.specs.Lists.{IsIn}
+use Rattle.comp_graph.specs.Lists.{IsIn}
 use Rattle.potential_cert.specs.TableBytes.{big_endian, row_bytes, words_in}
 use Rattle.potential_cert.proofs.Pieces.{length_row}
 use Rattle.cover_cert.specs.declared.tables.Cover.{Cover}
 use Rattle.cover_cert.specs.CoverBytes.{IsCoverSpelling, cover_header, cover_numbers, cover_row_bytes, name_bytes, names_bytes}
-use Rattle.cover_cert.specs.CoverTable.{CoverRowParts, CoverTableParts, IsCoverTable, NamesHold, PlacesRise, plain}
+use Rattle.cover_cert.specs.CoverTable.{CoverRowParts, CoverTableParts, NamesHold, PlacesRise, plain}
 use Rattle.cover_cert.proofs.CoverPieces.{length_names}
 use Rattle.cover_cert.proofs.CoverReadable.{length_header}
 

@@ -1,7 +1,7 @@
 -- The numbers of a covered table in its bytes, and the whole.
 use Rattle.std.proofs.Common.{◌≡◌, ℕ, ◌≤◌, List, [], ◌∷◌, ◌++◌, length, refl, sym, ap, ◌∙◌, subst, inl, inr, arith, append_assoc}
 use Rattle.std.specs.Prelude.{flat_map}
-use Rattle.forced_bounds.specs.Lists.{IsIn}
+use Rattle.comp_graph.specs.Lists.{IsIn}
 use Rattle.potential_cert.specs.TableBytes.{big_endian, words_in, Numbers, NumbersFit}
 use Rattle.potential_cert.specs.Readings.{BeginsWithNumber}
 use Rattle.potential_cert.proofs.Codes.{number_one}

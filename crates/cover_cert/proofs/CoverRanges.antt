@@ -1,9 +1,9 @@
 -- A covered table of a game can be written: its numbers are in their ranges, and its names fit.
-use Rattle.std.proofs.Common.{◌≡◌, ℕ, zero, suc, ◌^◌, ◌≤◌, ◌<◌, List, [], ◌∷◌, length, refl, subst, arith}
+use Rattle.std.proofs.Common.{ℕ, zero, suc, ◌^◌, ◌≤◌, ◌<◌, List, [], ◌∷◌, length, refl, arith}
 use Rattle.comp_graph.specs.Games.{GameParts, IsGame, PebbleGame, game_of}
 use Rattle.normal_steps.specs.Sound.{IsSound}
 use Rattle.normal_steps.specs.StepTests.{legal_steps}
-use Rattle.forced_bounds.specs.Lists.{IsIn}
+use Rattle.comp_graph.specs.Lists.{IsIn}
 use Rattle.potential_cert.specs.Places.{IsAt}
 use Rattle.potential_cert.proofs.Places.{at_below}
 use Rattle.cover_cert.specs.declared.tables.Cover.{Cover}

@@ -5,9 +5,8 @@ use Rattle.std.proofs.lemmas.Bool.{cases_eq, cases_lt}
 use Rattle.std.proofs.lemmas.List.{length-append, length-drop}
 use Rattle.byteorder.specs.Endian.{big_number}
 use Rattle.byteorder.specs.Numbers.{length-bytes_high_first}
-use Rattle.forced_bounds.specs.Lists.{IsIn}
 use Rattle.potential_cert.specs.Readings.{AreBytes, BeginsWithNumber}
-use Rattle.potential_cert.specs.TableBytes.{big_endian, row_bytes, words_in, Numbers, NumbersFit}
+use Rattle.potential_cert.specs.TableBytes.{big_endian, row_bytes, words_in, Numbers}
 use Rattle.potential_cert.proofs.Codes.{AllSmall, number_bytes, number_one}
 use Rattle.potential_cert.proofs.Pieces.{after_cost, after_set, flat_front}
 use Rattle.potential_cert.proofs.Readable.{after_drop, append_small, flat_small, front_number, front_set, row_small, small_or_not}

@@ -1,6 +1,6 @@
 -- What can be written can be spelled.
 use Rattle.std.proofs.Common.{◌<◌, ◌^◌, arith}
-use Rattle.forced_bounds.specs.Lists.{IsIn}
+use Rattle.comp_graph.specs.Lists.{IsIn}
 use Rattle.cover_cert.specs.CoverBytes.{AreRowWords, CanBeSpelled, IsCoverInRange}
 use Rattle.cover_cert.specs.CoverTable.{CoverRowParts, CoverTableParts}
 

@@ -1,5 +1,5 @@
 -- What a covering position can do.
-use Rattle.std.proofs.Common.{◌≡◌, ℕ, Bool, true, false, IsTrue, ◌↔◌, sym, ◌∙◌, subst, arith}
+use Rattle.std.proofs.Common.{◌≡◌, ℕ, true, ◌↔◌, sym, ◌∙◌, subst, arith}
 use Rattle.std.specs.FinSet.{intersection}
 use Rattle.comp_graph.specs.Vertices.{Vertices, ◌∈◌}
 use Rattle.comp_graph.specs.Dags.{IsDag, is_live, live_of}

@@ -7,7 +7,7 @@ use Rattle.normal_steps.specs.Sound.{IsSound}
 use Rattle.normal_steps.specs.Steps.{IsStep}
 use Rattle.normal_steps.specs.StepTests.{legal_steps}
 use Rattle.normal_steps.specs.declared.step.Step.{Step}
-use Rattle.forced_bounds.specs.Lists.{IsIn}
+use Rattle.comp_graph.specs.Lists.{IsIn}
 use Rattle.potential_cert.specs.declared.tables.Row.{Row}
 use Rattle.search_laws.proofs.Lists.{in_right}
 use Rattle.search_laws.proofs.Tests.{legal_steps_legal}
@@ -19,7 +19,7 @@ use Rattle.branch_bound.specs.Frontiers.{HasTried, IsFrontier, best_of, store_of
 use Rattle.cover_cert.specs.declared.making.Made.{Made}
 use Rattle.cover_cert.specs.CoverMaking.{NamesFirst, made_namings, made_row}
 use Rattle.cover_cert.specs.CoverSearch.{Naming}
-use Rattle.cover_cert.specs.CoverTurns.{AreMade, AreNamedOrTried, HasDone, HasMade, IsDoing, IsMadePlace, row_at}
+use Rattle.cover_cert.specs.CoverTurns.{AreMade, AreNamedOrTried, HasMade, IsDoing, row_at}
 use Rattle.cover_cert.proofs.MadeLists.{append_none}
 use Rattle.cover_cert.proofs.StepsDone.{done_more, done_named, done_none, done_tried, still_made}
 

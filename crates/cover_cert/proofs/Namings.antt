@@ -1,15 +1,13 @@
 -- What the search of a covering row gives, and the names that steps were given.
-use Rattle.std.proofs.Common.{◌≡◌, ℕ, ◌+◌, ◌≤◌, ◌<◌, leb, Bool, true, false, ◌&&◌, List, [], ◌∷◌, ◌++◌, map, cond, ◌⊎◌, inl, inr, refl, sym, ap, ◌∙◌, subst, arith}
-use Rattle.std.specs.Prelude.{filter, Option, Some, None, ⊤}
+use Rattle.std.proofs.Common.{◌≡◌, ℕ, ◌≤◌, ◌<◌, leb, Bool, true, false, ◌&&◌, List, [], ◌∷◌, ◌++◌, map, cond, ◌⊎◌, inl, inr, refl, sym, ap, ◌∙◌, subst, arith}
+use Rattle.std.specs.Prelude.{filter, Option, Some, None}
 use Rattle.comp_graph.specs.Dags.{IsDag}
 use Rattle.comp_graph.specs.Games.{PebbleGame}
 use Rattle.comp_graph.proofs.DagLaws.{both}
 use Rattle.pebble_rules.specs.declared.position.Position.{Position}
-use Rattle.normal_steps.specs.Steps.{stepped, step_cost}
-use Rattle.normal_steps.specs.StepTests.{legal_steps}
 use Rattle.normal_steps.specs.declared.step.Step.{Step}
 use Rattle.normal_steps.specs.declared.step.Step.TheVariants.{Work, Drop, Spill}
-use Rattle.forced_bounds.specs.Lists.{IsIn}
+use Rattle.comp_graph.specs.Lists.{IsIn}
 use Rattle.potential_cert.specs.declared.tables.Row.{Row}
 use Rattle.potential_cert.specs.Order.{precedes}
 use Rattle.search_laws.specs.Steps.{same_position}
@@ -17,7 +15,6 @@ use Rattle.search_laws.specs.Search.{is_expanded, Entry}
 use Rattle.search_laws.proofs.Lists.{filter_in, in_filter, append_cases, map_in, in_map}
 use Rattle.search_laws.proofs.Tests.{leb_true, same_position_true, true_same_position}
 use Rattle.cover_cert.specs.Covers.{Covers, is_covered_by}
-use Rattle.potential_cert.specs.Places.{IsAt}
 use Rattle.cover_cert.specs.declared.tables.Cover.{Cover}
 use Rattle.cover_cert.specs.CoverTable.{CanBeNamed, PlacesRise, IsNamed}
 use Rattle.cover_cert.specs.CoverSearch.{Naming, is_covering, earlier, earliest, covering, row_named, namings_of, numbered}

@@ -1,5 +1,5 @@
 -- Rows that were made, in order and with numbers.
-use Rattle.std.proofs.Common.{◌≡◌, ℕ, zero, suc, ◌+◌, ◌≤◌, ◌<◌, Bool, true, false, List, [], ◌∷◌, map, length, get_or, cond, inl, inr, refl, sym, ap, ◌∙◌, subst, arith}
+use Rattle.std.proofs.Common.{◌≡◌, ℕ, zero, suc, ◌+◌, ◌≤◌, ◌<◌, true, List, [], ◌∷◌, length, cond, sym, ap, ◌∙◌, subst, arith}
 use Rattle.std.specs.List.Sorted.{IsPermutation, IsSortedBy}
 use Rattle.std.proofs.lemmas.List.{get_or-map, length-map}
 use Rattle.std.proofs.lemmas.List.Sorted.{IsPermutation-map, length_permutation, ranks_by}
@@ -8,14 +8,13 @@ use Rattle.std.specs.Cmp.{IsStrictWeakOrder}
 use Rattle.pebble_rules.specs.Positions.{position_words}
 use Rattle.pebble_rules.specs.declared.position.Position.{Position}
 use Rattle.pebble_rules.proofs.Possible.{not_member}
-use Rattle.forced_bounds.specs.Lists.{IsIn}
+use Rattle.comp_graph.specs.Lists.{IsIn}
 use Rattle.potential_cert.specs.Order.{precedes}
 use Rattle.potential_cert.specs.Places.{IsAt}
 use Rattle.potential_cert.specs.Table.{IsRising}
 use Rattle.potential_cert.specs.declared.tables.Row.{Row}
 use Rattle.potential_cert.proofs.Order.{precedes_is_strict}
 use Rattle.potential_cert.proofs.Places.{at_in}
-use Rattle.search_laws.specs.Steps.{same_position}
 use Rattle.search_laws.proofs.Lists.{map_in}
 use Rattle.search_laws.proofs.Tests.{same_position_true, true_same_position}
 use Rattle.branch_bound.proofs.RowLaws.{IsSmall, rows_rise, same_rows, still_apart}

@@ -1,8 +1,8 @@
 -- A covered table has one spelling, and no spelling begins another.
 use Rattle.std.proofs.Common.{◌≡◌, ℕ, ◌≤◌, List, [], ◌∷◌, ◌++◌, length, refl, sym, ap, ◌∙◌, subst, inl, inr, arith, append_assoc}
 use Rattle.std.specs.Prelude.{flat_map}
-use Rattle.forced_bounds.specs.Lists.{IsIn}
-use Rattle.potential_cert.specs.TableBytes.{big_endian, words_in, row_bytes}
+use Rattle.comp_graph.specs.Lists.{IsIn}
+use Rattle.potential_cert.specs.TableBytes.{big_endian, words_in}
 use Rattle.potential_cert.proofs.Codes.{number_one}
 use Rattle.potential_cert.proofs.OneSpelling.{row_one}
 use Rattle.cover_cert.specs.declared.tables.Cover.{Cover}

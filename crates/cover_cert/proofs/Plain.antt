@@ -1,15 +1,14 @@
 -- A valid table whose rows rise is a covered table without names.
 use Rattle.std.proofs.Common.{◌≡◌, List, [], ◌∷◌, map, inl, inr, sym, subst, arith, refl, ap, ◌+◌}
 use Rattle.normal_steps.specs.Sound.{IsSound}
-use Rattle.forced_bounds.specs.Lists.{IsIn}
+use Rattle.comp_graph.specs.Lists.{IsIn}
 use Rattle.potential_cert.specs.declared.tables.Row.{Row}
-use Rattle.potential_cert.specs.Table.{IsRising, HasRowWithin}
+use Rattle.potential_cert.specs.Table.{IsRising, HasRowWithin, FinishHolds}
 use Rattle.potential_cert.specs.Order.{precedes}
 use Rattle.search_laws.proofs.Lists.{in_map, map_in}
 use Rattle.cover_cert.specs.CoverTable.{CoverRowParts, without_names, NamesHold, StepsHold, plain, plain_rows}
 use Rattle.cover_cert.specs.CoverLaws.{PlainTablesAreCoverTables}
 use Rattle.cover_cert.proofs.RowTests.{legal_at}
-use Rattle.cert_checker.specs.Refusals.{FinishHolds}
 use Rattle.normal_steps.specs.Steps.{stepped, step_cost}
 
 plain_without : (rows : List Row) → plain_rows (map without_names rows) ≡ rows

@@ -8,18 +8,18 @@ use Rattle.normal_steps.specs.Steps.{stepped, step_cost, CanFinish, IsFinishing,
 use Rattle.normal_steps.specs.Sound.{IsSound}
 use Rattle.normal_steps.specs.StepTests.{legal_steps}
 use Rattle.normal_steps.specs.declared.step.Step.{Step}
-use Rattle.forced_bounds.specs.Lists.{IsIn}
+use Rattle.comp_graph.specs.Lists.{IsIn}
 use Rattle.forced_bounds.specs.Floor.{floor}
 use Rattle.forced_bounds.specs.FloorLaws.{FloorOfFinish}
 use Rattle.potential_cert.specs.declared.tables.Row.{Row}
-use Rattle.potential_cert.specs.Table.{AreDistinct, IsRising, HasRow, HasRowWithin, offer}
+use Rattle.potential_cert.specs.Table.{AreDistinct, IsRising, HasRow, HasRowWithin, offer, FinishHolds}
 use Rattle.potential_cert.specs.TableLaws.{HaveSameMembers}
 use Rattle.potential_cert.specs.Order.{precedes}
 use Rattle.potential_cert.proofs.Order.{precedes_is_strict}
 use Rattle.potential_cert.proofs.Rising.{rising_is_distinct}
 use Rattle.search_laws.specs.Search.{is_waiting, is_expanded, Entry, begun, rows_of}
 use Rattle.search_laws.proofs.Lists.{in_map, map_in}
-use Rattle.search_laws.specs.Standing.{row_of, IsPlayed, start_row, IsFresh}
+use Rattle.search_laws.specs.Standing.{row_of, IsReachedBy, start_row, IsFresh}
 use Rattle.search_laws.proofs.Entries.{NoneWaits, apart_same, rows_in, in_rows, rows_apart}
 use Rattle.search_laws.proofs.Turns.{played_sound}
 use Rattle.search_laws.proofs.Results.{begun_stands, begun_rows}
@@ -34,7 +34,6 @@ use Rattle.potential_cert.proofs.Places.{at_in, at_below, at_one}
 use Rattle.cover_cert.proofs.Namings.{naming_in, places_rise, naming_named}
 use Rattle.cover_cert.proofs.Sorted.{one_row, length_within, same_length, none_mapped, at_map, plain_full, number_at}
 use Rattle.cover_cert.proofs.Turns.{HasCoverSearched, has_cover_searched}
-use Rattle.cert_checker.specs.Refusals.{FinishHolds}
 use Rattle.cover_cert.specs.CoverStanding.{IsGoodNaming, IsSettledOrNamed, CoverStands}
 
 -- ---- the beginning
@@ -61,10 +60,10 @@ module _ (g : PebbleGame) (dag : IsDag g.dag) (first : ℕ) (t : CoverSearch) (s
   abbrev made : List Row
   made = rows_of t.search.entries
 
-  row_reached : (r : Row) → IsIn r made → (ss : List Step) × IsPlayed g r.position r.cost ss
+  row_reached : (r : Row) → IsIn r made → (ss : List Step) × IsReachedBy g r.position r.cost ss
   row_reached r i =
       let e = rows_in r t.search.entries i in
-      (e.0.play, subst (λ r. IsPlayed g r.position r.cost e.0.play) (sym e.3) (stands.kept.played e.0 e.1))
+      (e.0.play, subst (λ r. IsReachedBy g r.position r.cost e.0.play) (sym e.3) (stands.kept.played e.0 e.1))
 
   row_unfinished : (r : Row) → IsIn r made → CanFinish g r.position → ⊥
   row_unfinished r i finish =

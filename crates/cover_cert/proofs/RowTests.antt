@@ -1,5 +1,5 @@
 -- What the tests of a row have shown so far.
-use Rattle.std.proofs.Common.{◌≡◌, ℕ, zero, suc, ◌+◌, ◌≤◌, ◌<◌, eqb, false, IsTrue, ◌↔◌, List, [], ◌∷◌, length, ◌⊎◌, inl, inr, refl, sym, ap, ◌∙◌, subst, arith}
+use Rattle.std.proofs.Common.{◌≡◌, ℕ, zero, suc, ◌+◌, ◌≤◌, ◌<◌, eqb, IsTrue, ◌↔◌, List, [], ◌∷◌, length, ◌⊎◌, inl, inr, refl, sym, ap, ◌∙◌, subst, arith}
 use Rattle.std.specs.List.{slice_index_or}
 use Rattle.comp_graph.specs.Vertices.{size}
 use Rattle.comp_graph.specs.Dags.{IsDag}
@@ -16,7 +16,7 @@ use Rattle.normal_steps.proofs.StepTestLaws.{legal_steps_are_listed, legal_steps
 use Rattle.potential_cert.specs.Places.{IsAt}
 use Rattle.cover_cert.specs.declared.tables.Cover.{Cover}
 use Rattle.cover_cert.specs.CoverTable.{CoverRowParts, PlacesRise, CanBeNamed, IsNamed, IsCoveredBy, NamesHold, StepHolds, StepsHold, HasFreeRow}
-use Rattle.potential_cert.proofs.Places.{at_in, in_at, at_below, at_one, index_at, at_contains}
+use Rattle.potential_cert.proofs.Places.{at_in, in_at, at_below, at_one, index_at}
 
 -- ---- places
 
@@ -83,7 +83,7 @@ pub same_legal : (g : PebbleGame) → IsDag g.dag → (p : Position) → IsSound
 same_legal g dag p sound ss are = legal_steps_are_one_list g p ss (legal_steps g p) are (legal_steps_are_listed g dag p sound.red_below)
 
 pub legal_at : (g : PebbleGame) → IsDag g.dag → (p : Position) → IsSound g p → (s : Step) (k : ℕ) → IsAt s k (legal_steps g p) → IsStep g p s
-legal_at g dag p sound s k at = ((legal_steps_are_listed g dag p sound.red_below).legal s).0 (at_contains s k (legal_steps g p) at)
+legal_at g dag p sound s k at = ((legal_steps_are_listed g dag p sound.red_below).legal s).0 (at_in s k (legal_steps g p) at)
 
 -- ---- names that rise
 

@@ -1,12 +1,10 @@
 -- The rows of a covered table, from rows in order and names.
 use Rattle.std.proofs.Common.{◌≡◌, ℕ, zero, suc, ◌+◌, ◌≤◌, Bool, true, false, List, [], ◌∷◌, map, length, cond, ◌⊎◌, inl, inr, refl, sym, ap, ◌∙◌, subst, arith}
 use Rattle.pebble_rules.specs.declared.position.Position.{Position}
-use Rattle.forced_bounds.specs.Lists.{IsIn}
+use Rattle.comp_graph.specs.Lists.{IsIn}
 use Rattle.potential_cert.specs.declared.tables.Row.{Row}
-use Rattle.potential_cert.specs.Table.{AreDistinct, IsRising}
-use Rattle.potential_cert.specs.Order.{precedes}
+use Rattle.potential_cert.specs.Table.{AreDistinct}
 use Rattle.search_laws.specs.Steps.{same_position}
-use Rattle.search_laws.proofs.Lists.{map_in}
 use Rattle.search_laws.proofs.Tests.{same_position_true, true_same_position}
 use Rattle.potential_cert.specs.Places.{IsAt}
 use Rattle.cover_cert.specs.CoverTable.{plain_rows}

@@ -1,19 +1,18 @@
 -- Steps from a row get names or are tried, in the packed state.
-use Rattle.std.proofs.Common.{◌≡◌, ℕ, zero, suc, ◌+◌, ◌≤◌, ◌<◌, true, List, [], ◌∷◌, ◌++◌, length, Option, None, Some, ◌↔◌, refl, sym, ap, ◌∙◌, subst, arith, append_assoc}
-use Rattle.std.specs.Prelude.{fold}
+use Rattle.std.proofs.Common.{◌≡◌, ℕ, suc, ◌+◌, ◌≤◌, ◌<◌, true, List, [], ◌∷◌, ◌++◌, length, None, Some, ◌↔◌, refl, sym, ap, ◌∙◌, subst, arith, append_assoc}
 use Rattle.comp_graph.specs.Dags.{IsDag}
 use Rattle.comp_graph.specs.Games.{PebbleGame}
 use Rattle.pebble_rules.specs.declared.position.Position.{Position}
 use Rattle.normal_steps.specs.Steps.{stepped, step_cost}
 use Rattle.normal_steps.specs.declared.step.Step.{Step}
-use Rattle.forced_bounds.specs.Lists.{IsIn}
+use Rattle.comp_graph.specs.Lists.{IsIn}
 use Rattle.potential_cert.specs.declared.tables.Row.{Row}
 use Rattle.search_laws.specs.Search.{Mark, is_expanded, Entry, Search, if_next, rows_of, step_tried}
 use Rattle.search_laws.specs.Packing.{Store, Best, Packs, entry_at, entry_of}
 use Rattle.search_laws.specs.Turning.{AreTried}
 use Rattle.search_laws.proofs.Bounds.{row_places}
 use Rattle.cover_cert.specs.CoverMaking.{NamesFirst}
-use Rattle.cover_cert.specs.CoverSearch.{CoverSearch, Naming, all_named_or_tried, named_or_tried, row_named}
+use Rattle.cover_cert.specs.CoverSearch.{CoverSearch, Naming, all_named_or_tried, named_or_tried}
 use Rattle.cover_cert.specs.CoverTurns.{AreMade, AreNamedOrTried, row_at}
 use Rattle.cover_cert.proofs.FirstFits.{names_none, names_some}
 use Rattle.cover_cert.proofs.MadeLists.{append_none}

@@ -9,7 +9,7 @@ use Rattle.pebble_rules.proofs.Possible.{not_member}
 use Rattle.normal_steps.specs.Steps.{stepped}
 use Rattle.normal_steps.specs.StepTests.{legal_steps}
 use Rattle.normal_steps.specs.declared.step.Step.{Step}
-use Rattle.forced_bounds.specs.Lists.{IsIn}
+use Rattle.comp_graph.specs.Lists.{IsIn}
 use Rattle.forced_bounds.specs.Floor.{floor}
 use Rattle.forced_bounds.proofs.Paths.{not_true, true_not}
 use Rattle.search_laws.specs.Steps.{same_position}

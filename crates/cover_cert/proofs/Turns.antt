@@ -7,22 +7,22 @@ use Rattle.pebble_rules.specs.declared.position.Position.{Position}
 use Rattle.normal_steps.specs.Steps.{IsStep, stepped, step_cost}
 use Rattle.normal_steps.specs.StepTests.{legal_steps}
 use Rattle.normal_steps.specs.declared.step.Step.{Step}
-use Rattle.forced_bounds.specs.Lists.{IsIn}
+use Rattle.comp_graph.specs.Lists.{IsIn}
 use Rattle.forced_bounds.specs.FloorLaws.{FloorOfFinish}
 use Rattle.potential_cert.specs.declared.tables.Row.{Row}
-use Rattle.search_laws.specs.Search.{expanded, given_up, Entry, Search, next_waiting, step_tried, opened, is_beaten, give_up, if_next, rows_of}
+use Rattle.search_laws.specs.Search.{expanded, given_up, Entry, Search, next_waiting, step_tried, becomes_row, is_beaten, give_up, if_next, rows_of}
 use Rattle.search_laws.proofs.Lists.{in_left, in_right, append_cases}
 use Rattle.search_laws.proofs.Tests.{legal_steps_legal}
-use Rattle.search_laws.specs.Standing.{row_of, IsNext, IsPlayed, HasEntryWithin, IsSettled, start_row, IsKept}
+use Rattle.search_laws.specs.Standing.{row_of, IsNext, IsReachedBy, HasEntryWithin, start_row, IsKept}
 use Rattle.search_laws.proofs.Entries.{NoneWaits, rows_in, in_rows, one_row_more}
 use Rattle.search_laws.proofs.Kept.{play_push, is_tried}
-use Rattle.search_laws.proofs.Turns.{waiting_no_row, within_marked, played_sound, rows_after, rows_before, row_new, started, opened_kept, rows_below, no_row_here, same_rows, given_up_kept}
+use Rattle.search_laws.proofs.Turns.{waiting_no_row, within_marked, played_sound, rows_after, rows_before, row_new, started, becomes_row_kept, rows_below, no_row_here, same_rows, given_up_kept}
 use Rattle.potential_cert.specs.Places.{IsAt}
 use Rattle.cover_cert.specs.CoverTable.{CanBeNamed}
 use Rattle.cover_cert.specs.CoverSearch.{Naming, CoverSearch, named_or_tried, all_named_or_tried, cover_expand, cover_settled, cover_search_on}
 use Rattle.cover_cert.proofs.Namings.{IsCovering, NamedCases, named_cases, namings_more, namings_push}
 use Rattle.cover_cert.proofs.Settled.{HasSettled, settled_keeps}
-use Rattle.cover_cert.specs.CoverStanding.{HasNaming, IsGoodNaming, AreNamings, IsSettledOrNamed, CoverStands}
+use Rattle.cover_cert.specs.CoverStanding.{IsGoodNaming, AreNamings, IsSettledOrNamed, CoverStands}
 
 -- the names of steps from p are at places below k
 abbrev NamingsBelow : Position → ℕ → List Naming → Type 0
@@ -44,7 +44,7 @@ record IsDone (g : PebbleGame) (first : ℕ) (e : Entry) (k : ℕ) (s : Step) (t
 abbrev naming : Entry → ℕ → Entry → Naming
 naming e k f = record { row = e.position; step = k; by = f.position }
 
-module _ (ends : FloorOfFinish) (g : PebbleGame) (dag : IsDag g.dag) (first : ℕ) (e : Entry) (played : IsPlayed g e.position e.cost e.play) where
+module _ (ends : FloorOfFinish) (g : PebbleGame) (dag : IsDag g.dag) (first : ℕ) (e : Entry) (played : IsReachedBy g e.position e.cost e.play) where
   module _ (k : ℕ) (s : Step) (at : IsAt s k (legal_steps g e.position)) (step : IsStep g e.position s) (t : CoverSearch) (kept : IsKept g first t.search)
       (below : (r : Row) → IsIn r (rows_of t.search.entries) → r.cost ≤ e.cost) (begins : IsIn (start_row g) (rows_of t.search.entries))
       (here : IsIn (row_of e) (rows_of t.search.entries)) (named : AreNamings g (rows_of t.search.entries) t.names) (before : NamingsBelow e.position k t.names) where
@@ -188,7 +188,7 @@ none_named g dag first t stands e next n i same =
     grind arith)
 
 abbrev made : PebbleGame → CoverSearch → Entry → CoverSearch
-made g t e = all_named_or_tried g e 0 (legal_steps g e.position) (record { search = opened e t.search; names = t.names })
+made g t e = all_named_or_tried g e 0 (legal_steps g e.position) (record { search = becomes_row e t.search; names = t.names })
 
 pub has_cover_expanded : FloorOfFinish → (g : PebbleGame) → IsDag g.dag → (first : ℕ) (t : CoverSearch) → CoverStands g first t → (e : Entry) → IsNext t.search.entries e
     → HasCoverExpanded g first t e (cover_expand g e t)
@@ -196,8 +196,8 @@ unfolding cover_expand
 has_cover_expanded ends g dag first t stands e next =
     let played = stands.kept.played e next.member in
     let all = are_done ends g dag first e played 0 (legal_steps g e.position) (λ i j same s h. subst (λ i. IsAt s i (legal_steps g e.position)) (same_place i j same) h)
-    (legal_steps_legal g dag e.position (played_sound g dag e.position e.cost e.play played)) (record { search = opened e t.search; names = t.names })
-    (opened_kept g dag first t.search stands.kept e next) (rows_below g dag first t.search stands.kept e next) (started g dag first t.search stands.kept e next)
+    (legal_steps_legal g dag e.position (played_sound g dag e.position e.cost e.play played)) (record { search = becomes_row e t.search; names = t.names })
+    (becomes_row_kept g dag first t.search stands.kept e next) (rows_below g dag first t.search stands.kept e next) (started g dag first t.search stands.kept e next)
     (row_new g dag first t.search stands.kept e next)
     (namings_more g (rows_of t.search.entries) _ t.names (rows_before g dag first t.search stands.kept e next) stands.named)
     (none_named g dag first t stands e next) in
@@ -215,7 +215,7 @@ has_cover_expanded ends g dag first t stands e next =
     same_place i j h = omega arith
 
     settled_by : (r : Row) (k : ℕ) (s : Step) → IsAt s k (legal_steps g r.position)
-        → AreDone ends g dag first e (stands.kept.played e next.member) 0 (legal_steps g e.position) (record { search = opened e t.search; names = t.names }) (made g t e)
+        → AreDone ends g dag first e (stands.kept.played e next.member) 0 (legal_steps g e.position) (record { search = becomes_row e t.search; names = t.names }) (made g t e)
         → (r ≡ row_of e) ⊎ IsIn r (rows_of t.search.entries) → IsSettledOrNamed g (made g t e) r k s
     settled_by r k s at all (inl same) =
         subst (λ r. IsSettledOrNamed g (made g t e) r k s) (sym same) (all.settled k k (omega arith) s (subst (λ r. IsAt s k (legal_steps g r.position)) same at))

@@ -1,5 +1,5 @@
 -- The turns of the search that names covering rows, in the packed state.
-use Rattle.std.proofs.Common.{◌≡◌, ℕ, zero, suc, ◌+◌, ◌-◌, ◌≤◌, ◌<◌, true, false, List, [], ◌∷◌, ◌++◌, map, ◌⊎◌, inl, inr, refl, sym, ap, ◌∙◌, subst, arith}
+use Rattle.std.proofs.Common.{◌≡◌, ℕ, suc, ◌+◌, ◌-◌, ◌≤◌, ◌<◌, false, List, [], ◌∷◌, ◌++◌, ◌⊎◌, inl, inr, sym, ap, ◌∙◌, subst, arith}
 use Rattle.comp_graph.specs.Dags.{IsDag}
 use Rattle.comp_graph.specs.Games.{PebbleGame}
 use Rattle.pebble_rules.specs.Rules.{start}
@@ -9,10 +9,10 @@ use Rattle.normal_steps.specs.Sound.{IsSound}
 use Rattle.normal_steps.specs.Steps.{IsFinishing, total_cost}
 use Rattle.normal_steps.specs.StepTests.{legal_steps}
 use Rattle.normal_steps.specs.declared.step.Step.{Step}
-use Rattle.forced_bounds.specs.Lists.{IsIn}
+use Rattle.comp_graph.specs.Lists.{IsIn}
 use Rattle.forced_bounds.specs.FloorLaws.{FloorOfFinish}
 use Rattle.potential_cert.specs.declared.tables.Row.{Row}
-use Rattle.search_laws.specs.Search.{waiting, is_expanded, Search, begun, next_waiting, opened, rows_of}
+use Rattle.search_laws.specs.Search.{waiting, Search, begun, next_waiting, becomes_row, rows_of}
 use Rattle.search_laws.specs.Steps.{same_position}
 use Rattle.search_laws.proofs.Entries.{rows_in}
 use Rattle.search_laws.proofs.Lists.{append_cases, in_left, in_right, map_in, in_map}
@@ -125,7 +125,7 @@ module _ (g : PebbleGame) (dag : IsDag g.dag) (first : List Step) (budget turns 
         places : (r : Row) → IsIn r (row_at u k ∷ made_rows made) → IsMadePlace u r
         places r (inl e) = (k, has.within, has.is_row, e)
         places r (inr i) =
-            (row_places g first u b plays (opened (next_entry u plays k) has.search) has.packs r).0
+            (row_places g first u b plays (becomes_row (next_entry u plays k) has.search) has.packs r).0
             (rows_before g dag most has.search has.kept (next_entry u plays k) has.next r ((made_are has.search has.settles on.packs.packs r).0 i))
 
         by_case : (r : Row) → (r ≡ row_at u k) ⊎ IsIn r (rows_of has.search.entries) → IsIn r (row_at u k ∷ made_rows made)
@@ -133,7 +133,7 @@ module _ (g : PebbleGame) (dag : IsDag g.dag) (first : List Step) (budget turns 
         by_case r (inr i) = inr ((made_are has.search has.settles on.packs.packs r).1 i)
 
         all : (r : Row) → IsMadePlace u r → IsIn r (row_at u k ∷ made_rows made)
-        all r place = by_case r (rows_after g dag most has.search has.kept (next_entry u plays k) has.next r ((row_places g first u b plays (opened (next_entry u plays k) has.search) has.packs r).1 place))
+        all r place = by_case r (rows_after g dag most has.search has.kept (next_entry u plays k) has.next r ((row_places g first u b plays (becomes_row (next_entry u plays k) has.search) has.packs r).1 place))
 
     -- no row stands where the next one does
     no_row_there : (r : Row) → IsIn r (rows_of has.search.entries) → r.position ≡ (u.at k).position → ⊥
@@ -180,10 +180,10 @@ module _ (g : PebbleGame) (dag : IsDag g.dag) (first : List Step) (budget turns 
       all_names x (inr (inr i)) = absurd i
 
       abbrev went_plays : ℕ → List Step
-      went_plays = (done.goes first plays (opened (next_entry u plays k) has.search) has.packs).0
+      went_plays = (done.goes first plays (becomes_row (next_entry u plays k) has.search) has.packs).0
 
       abbrev went_search : Search
-      went_search = (done.goes first plays (opened (next_entry u plays k) has.search) has.packs).2
+      went_search = (done.goes first plays (becomes_row (next_entry u plays k) has.search) has.packs).2
 
       abbrev new_search : CoverSearch
       new_search = record { search = went_search; names = names ++ others }
@@ -191,9 +191,9 @@ module _ (g : PebbleGame) (dag : IsDag g.dag) (first : List Step) (budget turns 
       expanded_is : cover_expand g (next_entry u plays k) next_search ≡ new_search
       unfolding cover_expand
       expanded_is =
-          all_marked g waiting (entry_at u plays k) 0 (legal_steps g (u.at k).position) (record { search = opened (next_entry u plays k) has.search; names = names })
-          ∙ ap (λ p. all_named_or_tried g (entry_at u plays k) 0 (legal_steps g p) (record { search = opened (next_entry u plays k) has.search; names = names })) (sym at)
-          ∙ (done.goes first plays (opened (next_entry u plays k) has.search) has.packs).4 names
+          all_marked g waiting (entry_at u plays k) 0 (legal_steps g (u.at k).position) (record { search = becomes_row (next_entry u plays k) has.search; names = names })
+          ∙ ap (λ p. all_named_or_tried g (entry_at u plays k) 0 (legal_steps g p) (record { search = becomes_row (next_entry u plays k) has.search; names = names })) (sym at)
+          ∙ (done.goes first plays (becomes_row (next_entry u plays k) has.search) has.packs).4 names
 
       goes_on : turns < budget → cover_search_on g (budget - (turns + 1)) new_search ≡ cover_searched g first budget
       goes_on less =
@@ -214,7 +214,7 @@ module _ (g : PebbleGame) (dag : IsDag g.dag) (first : List Step) (budget turns 
         search = new_search;
         packs = record {
           plays = went_plays;
-          packs = (done.goes first plays (opened (next_entry u plays k) has.search) has.packs).3;
+          packs = (done.goes first plays (becomes_row (next_entry u plays k) has.search) has.packs).3;
           rows = rows_now;
           apart = subst StandApart (sym (map_push made_row made m)) (apart_push (made_rows made) (made_row m) on.packs.apart new_here);
           names = λ x i. all_names x (append_cases x made (m ∷ []) i);

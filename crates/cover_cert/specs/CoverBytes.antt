@@ -3,7 +3,7 @@
 -- name its place and its row.
 use Rattle.std.specs.Prelude.{◌≡◌, ◌⊎◌, ℕ, ◌*◌, ◌^◌, ◌≤◌, ◌<◌, List, ◌++◌, length, flat_map, codes}
 use Rattle.comp_graph.specs.Vertices.{AllBelow}
-use Rattle.forced_bounds.specs.Lists.{IsIn}
+use Rattle.comp_graph.specs.Lists.{IsIn}
 use Rattle.potential_cert.specs.TableBytes.{big_endian, words_in, row_bytes, Numbers, NumbersFit, RowFits}
 use Rattle.cover_cert.specs.declared.tables.Cover.{Cover}
 use Rattle.cover_cert.specs.CoverTable.{CoverRowParts, CoverTableParts, plain}

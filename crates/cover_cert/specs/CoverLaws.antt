@@ -9,7 +9,7 @@ use Rattle.pebble_rules.specs.declared.position.Position.{Position}
 use Rattle.normal_steps.specs.Simulation.{FinishesWithin}
 use Rattle.normal_steps.specs.Steps.{IsFinishing, total_cost, work_vertices}
 use Rattle.normal_steps.specs.declared.step.Step.{Step}
-use Rattle.forced_bounds.specs.Lists.{IsIn}
+use Rattle.comp_graph.specs.Lists.{IsIn}
 use Rattle.potential_cert.specs.declared.tables.Row.{Row}
 use Rattle.potential_cert.specs.Table.{IsValid, IsRising}
 use Rattle.potential_cert.specs.Order.{precedes}

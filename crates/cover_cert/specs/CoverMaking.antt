@@ -4,7 +4,7 @@ use Rattle.comp_graph.specs.Games.{PebbleGame}
 use Rattle.pebble_rules.specs.declared.position.Position.{Position}
 use Rattle.normal_steps.specs.Steps.{stepped, step_cost}
 use Rattle.normal_steps.specs.declared.step.Step.{Step}
-use Rattle.forced_bounds.specs.Lists.{IsIn}
+use Rattle.comp_graph.specs.Lists.{IsIn}
 use Rattle.potential_cert.specs.declared.tables.Row.{Row}
 use Rattle.potential_cert.specs.Order.{precedes}
 use Rattle.cover_cert.specs.declared.tables.Cover.{Cover}

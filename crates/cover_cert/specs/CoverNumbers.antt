@@ -1,7 +1,6 @@
 -- When rows that were made can be put in order and numbered, and what comes of it.
-use Rattle.std.specs.Prelude.{◌≡◌, ℕ, ◌≤◌, List, map, length, IsPermutation}
-use Rattle.forced_bounds.specs.Lists.{IsIn}
-use Rattle.pebble_rules.specs.declared.position.Position.{Position}
+use Rattle.std.specs.Prelude.{◌≡◌, ◌≤◌, List, map, length, IsPermutation}
+use Rattle.comp_graph.specs.Lists.{IsIn}
 use Rattle.potential_cert.specs.declared.tables.Row.{Row}
 use Rattle.potential_cert.specs.Order.{precedes}
 use Rattle.potential_cert.specs.Table.{HasRow, IsRising}

@@ -1,6 +1,6 @@
 -- What the parts of a reading of a covered table say.
 use Rattle.std.specs.Prelude.{◌≡◌, ℕ, List, ◌++◌, length, flat_map}
-use Rattle.forced_bounds.specs.Lists.{IsIn}
+use Rattle.comp_graph.specs.Lists.{IsIn}
 use Rattle.potential_cert.specs.TableBytes.{Numbers, NumbersFit}
 use Rattle.cover_cert.specs.declared.reading.Header.{Header}
 use Rattle.cover_cert.specs.declared.tables.Cover.{Cover}

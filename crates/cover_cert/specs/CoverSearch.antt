@@ -10,7 +10,7 @@ use Rattle.normal_steps.specs.declared.step.Step.TheVariants.{Work, Drop, Spill}
 use Rattle.potential_cert.specs.declared.tables.Row.{Row}
 use Rattle.potential_cert.specs.Order.{precedes}
 use Rattle.search_laws.specs.Steps.{same_position}
-use Rattle.search_laws.specs.Search.{is_expanded, Entry, Search, begun, next_waiting, step_tried, opened, if_next, settle, rows_of}
+use Rattle.search_laws.specs.Search.{is_expanded, Entry, Search, begun, next_waiting, step_tried, becomes_row, if_next, settle, rows_of}
 use Rattle.cover_cert.specs.Covers.{is_covered_by}
 use Rattle.cover_cert.specs.CoverTable.{CoverRowParts}
 use Rattle.cover_cert.specs.declared.tables.Cover.{Cover}
@@ -63,7 +63,7 @@ all_named_or_tried g e k (s ∷ ss) t = all_named_or_tried g e (suc k) ss (named
 
 -- the entry becomes a row, and then its legal steps are gone through in order
 unfoldable pub cover_expand : PebbleGame → Entry → CoverSearch → CoverSearch
-cover_expand g e t = all_named_or_tried g e 0 (legal_steps g e.position) (record { search = opened e t.search; names = t.names })
+cover_expand g e t = all_named_or_tried g e 0 (legal_steps g e.position) (record { search = becomes_row e t.search; names = t.names })
 
 -- entries are given up as long as the next one is beaten
 abbrev pub cover_settled : PebbleGame → CoverSearch → CoverSearch

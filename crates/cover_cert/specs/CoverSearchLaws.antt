@@ -6,7 +6,7 @@ use Rattle.comp_graph.specs.Games.{PebbleGame}
 use Rattle.pebble_rules.specs.Rules.{start}
 use Rattle.normal_steps.specs.Steps.{CanFinish, IsFinishing, total_cost, IsReached}
 use Rattle.normal_steps.specs.declared.step.Step.{Step}
-use Rattle.forced_bounds.specs.Lists.{IsIn}
+use Rattle.comp_graph.specs.Lists.{IsIn}
 use Rattle.potential_cert.specs.declared.tables.Row.{Row}
 use Rattle.cover_cert.specs.CoverTable.{CoverRowParts, IsCoverTable, IsCoverSupport}
 use Rattle.search_laws.specs.Search.{Entry, next_waiting, is_beaten, give_up}

@@ -5,7 +5,7 @@ use Rattle.pebble_rules.specs.declared.position.Position.{Position}
 use Rattle.normal_steps.specs.Steps.{stepped, step_cost}
 use Rattle.normal_steps.specs.StepTests.{legal_steps}
 use Rattle.normal_steps.specs.declared.step.Step.{Step}
-use Rattle.forced_bounds.specs.Lists.{IsIn}
+use Rattle.comp_graph.specs.Lists.{IsIn}
 use Rattle.potential_cert.specs.Places.{IsAt}
 use Rattle.potential_cert.specs.declared.tables.Row.{Row}
 use Rattle.search_laws.specs.Search.{rows_of}

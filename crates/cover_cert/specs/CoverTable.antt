@@ -9,12 +9,11 @@ use Rattle.normal_steps.specs.Sound.{IsSound}
 use Rattle.normal_steps.specs.StepTests.{legal_steps}
 use Rattle.normal_steps.specs.declared.step.Step.{Step}
 use Rattle.normal_steps.specs.declared.step.Step.TheVariants.{Work, Drop, Spill}
-use Rattle.forced_bounds.specs.Lists.{IsIn}
+use Rattle.comp_graph.specs.Lists.{IsIn}
 use Rattle.forced_bounds.specs.Floor.{floor}
 use Rattle.potential_cert.specs.declared.tables.Row.{Row}
-use Rattle.potential_cert.specs.Table.{HasRow, HasRowWithin, IsRising, offer}
+use Rattle.potential_cert.specs.Table.{HasRow, HasRowWithin, IsRising, offer, FinishHolds}
 use Rattle.potential_cert.specs.Order.{precedes}
-use Rattle.cert_checker.specs.Refusals.{FinishHolds}
 use Rattle.cover_cert.specs.Covers.{Covers}
 use Rattle.potential_cert.specs.Places.{IsAt}
 use Rattle.cover_cert.specs.declared.tables.Cover.{Cover}

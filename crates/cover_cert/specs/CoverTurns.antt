@@ -1,19 +1,18 @@
 -- How the places of a search and the rows that were made stand for the search that names covering rows, and what a turn does to them.
-use Rattle.std.specs.Prelude.{◌≡◌, true, ℕ, ◌+◌, ◌-◌, ◌*◌, ◌≤◌, ◌<◌, List, [], ◌∷◌, ◌++◌, map, length}
+use Rattle.std.specs.Prelude.{◌≡◌, true, ℕ, ◌+◌, ◌-◌, ◌*◌, ◌≤◌, ◌<◌, List, ◌++◌, length}
 use Rattle.comp_graph.specs.Games.{PebbleGame, GameParts, game_of}
-use Rattle.pebble_rules.specs.declared.position.Position.{Position}
 use Rattle.pebble_rules.specs.Rules.{start}
 use Rattle.normal_steps.specs.Steps.{total_cost}
 use Rattle.normal_steps.specs.StepTests.{legal_steps}
 use Rattle.normal_steps.specs.declared.step.Step.{Step}
-use Rattle.forced_bounds.specs.Lists.{IsIn}
+use Rattle.comp_graph.specs.Lists.{IsIn}
 use Rattle.potential_cert.specs.declared.tables.Row.{Row}
 use Rattle.search_laws.specs.Search.{is_expanded, Search}
 use Rattle.search_laws.specs.Packing as packing
 use Rattle.search_laws.specs.Turning.{IsExpanding}
 use Rattle.branch_bound.specs.declared.frontier.Best.{Best}
 use Rattle.branch_bound.specs.declared.frontier.Frontier.{Frontier}
-use Rattle.branch_bound.specs.Frontiers.{IsFrontier, StandApart, best_of, place_at, store_of}
+use Rattle.branch_bound.specs.Frontiers.{IsFrontier, StandApart, best_of, store_of}
 use Rattle.cover_cert.specs.declared.making.Made.{Made}
 use Rattle.cover_cert.specs.CoverMaking.{made_namings, made_row, made_rows}
 use Rattle.cover_cert.specs.CoverSearch.{CoverSearch, Naming, all_named_or_tried, cover_search_on, cover_searched, namings_of}

@@ -1,5 +1,5 @@
--- When one position covers another, this project's own: so each play that finishes from the covered one has a play that finishes from the
--- covering one at no greater cost. Dead vertices do not matter.
+-- When one position covers another, this project's own. If the covered one has no more red vertices than there are slots, each play that
+-- finishes from it has a play that finishes from the covering one at no greater cost. Dead vertices do not matter.
 use Rattle.std.specs.Prelude.{◌≡◌, ℕ, ◌↔◌, Bool, true, ◌&&◌}
 use Rattle.std.specs.FinSet as set
 use Rattle.comp_graph.specs.Vertices.{◌∈◌, IsWithin}

@@ -4,10 +4,10 @@ use Rattle.comp_graph.specs.Dags.{IsDag}
 use Rattle.comp_graph.specs.Games.{PebbleGame}
 use Rattle.normal_steps.specs.Sound.{IsSound}
 use Rattle.potential_cert.specs.Order.{precedes}
-use Rattle.potential_cert.specs.Table.{IsRising}
+use Rattle.potential_cert.specs.Table.{IsRising, FinishHolds}
 use Rattle.cert_checker.specs.declared.refusal.Reason.{Reason}
 use Rattle.cert_checker.specs.declared.refusal.Reason.TheVariants.{Graph, Slots, Weights, Order, Position, Start, Cover, Step, Finish}
-use Rattle.cert_checker.specs.Refusals.{EachRow, FinishHolds, IsFirstFall, IsFirstWithout, place_of_reason}
+use Rattle.cert_checker.specs.Refusals.{EachRow, IsFirstFall, IsFirstWithout, place_of_reason}
 use Rattle.cover_cert.specs.CoverTable.{CoverTableParts, IsCoverTableOf, NamesHold, StartHolds, StepsHold, plain, plain_rows}
 
 -- the table does not give this reason
@@ -27,20 +27,20 @@ abbrev pub PassesBefore : PebbleGame → CoverTableParts → ℕ → Type 0
 PassesBefore g t n = (e : Reason) → place_of_reason e < n → Passes g t e
 
 -- the table gives this reason, and row k is the least that does
-abbrev pub Breaks : PebbleGame → CoverTableParts → Reason → ℕ → Type 0
-Breaks g t Graph k = (k ≡ 0) × (Passes g t Graph → ⊥)
-Breaks g t Slots k = (k ≡ 0) × (Passes g t Slots → ⊥)
-Breaks g t Weights k = (k ≡ 0) × (Passes g t Weights → ⊥)
-Breaks g t Order k = IsFirstFall (plain_rows t.rows) k
-Breaks g t Position k = IsFirstWithout (λ r. IsSound g r.position) t.rows k
-Breaks g t Start k = (k ≡ 0) × (Passes g t Start → ⊥)
-Breaks g t Cover k = IsFirstWithout (NamesHold g t.rows) t.rows k
-Breaks g t Step k = IsFirstWithout (StepsHold g t.rows t.bound) t.rows k
-Breaks g t Finish k = IsFirstWithout (λ r. FinishHolds g t.bound (plain r)) t.rows k
+abbrev pub GivesReason : PebbleGame → CoverTableParts → Reason → ℕ → Type 0
+GivesReason g t Graph k = (k ≡ 0) × (Passes g t Graph → ⊥)
+GivesReason g t Slots k = (k ≡ 0) × (Passes g t Slots → ⊥)
+GivesReason g t Weights k = (k ≡ 0) × (Passes g t Weights → ⊥)
+GivesReason g t Order k = IsFirstFall (plain_rows t.rows) k
+GivesReason g t Position k = IsFirstWithout (λ r. IsSound g r.position) t.rows k
+GivesReason g t Start k = (k ≡ 0) × (Passes g t Start → ⊥)
+GivesReason g t Cover k = IsFirstWithout (NamesHold g t.rows) t.rows k
+GivesReason g t Step k = IsFirstWithout (StepsHold g t.rows t.bound) t.rows k
+GivesReason g t Finish k = IsFirstWithout (λ r. FinishHolds g t.bound (plain r)) t.rows k
 
 -- the reason is the first that the table gives, and row k is the least that gives it
 pub record IsCoverRefusal (g : PebbleGame) (t : CoverTableParts) (reason : Reason) (k : ℕ) : Type 0 where
-  pub breaks : Breaks g t reason k
+  pub gives : GivesReason g t reason k
   pub first : PassesBefore g t (place_of_reason reason)
 
 -- where a table is refused, it is no covered table of the game

@@ -3,8 +3,8 @@ ghost use Rattle.std.specs.Prelude.{◌≡◌, ◌≤◌, length, IfOk, IfErr, I
 ghost use Rattle.comp_graph.specs.Games.{IsGame, game_of};
 ghost use Rattle.normal_steps.specs.Sound.{IsSound};
 ghost use Rattle.potential_cert.specs.Order.{precedes};
-ghost use Rattle.potential_cert.specs.Table.{IsRising};
-ghost use Rattle.cert_checker.specs.Refusals.{EachRow, FinishHolds, IsFirstFall, IsFirstWithout};
+ghost use Rattle.potential_cert.specs.Table.{IsRising, FinishHolds};
+ghost use Rattle.cert_checker.specs.Refusals.{EachRow, IsFirstFall, IsFirstWithout};
 ghost use Rattle.cover_cert.specs.CoverTable.{IsCoverTableOf, NamesHold, StepsHold, plain, plain_rows};
 ghost use Rattle.cover_cert.specs.Refusals.{IsCoverRefusal, PassesBefore};
 

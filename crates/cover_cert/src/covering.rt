@@ -6,8 +6,9 @@ ghost use Rattle.cover_cert.specs.Covers.{Covers, HasPebbles, live_part};
 use comp_graph::Game;
 use pebble_rules::Position;
 
-/// Whether `p` covers `q`: each live vertex has in `p` the pebbles that it has in `q`. It is what bounds of covered
-/// tables rest on: each play that finishes from `q` has one that finishes from `p` at no greater cost. It takes no memory.
+/// Whether `p` covers `q`: each live vertex has in `p` the pebbles that it has in `q`. Bounds of covered
+/// tables rest on this: if `q` has no more red vertices than there are slots, each play that finishes from `q` has one that finishes from
+/// `p` at no greater cost. It takes no memory.
 pub fn covers(game: &Game, p: &Position, q: &Position) -> bool
     ensures { IsTrue result ↔ Covers (game_of game.now) p.now q.now }
 {

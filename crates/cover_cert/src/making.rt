@@ -95,7 +95,7 @@ fn row_named(game: &Game, made: &[Made], row: &Row, step: Step) -> Option<Positi
     first_fit(made, row, &wanted, most)
 }
 
-// Makes the row at the place `k`: each legal step from it gets a name, or is tried. That is one tick of `steps`, which only this call makes.
+// Makes the row at the place `k`: each legal step from it gets a name, or is tried; `steps` counts one more.
 pub(crate) fn make<L: Ledger>(
     alloc: Global,
     game: &Game,

@@ -1,6 +1,6 @@
 //! The rows of a table: those that were made, in the order of their positions, with their names as numbers.
 ghost use Rattle.std.specs.Prelude.{◌≡◌, ◌≤◌, length, map, IfOk, IsPermutation, IsSortedBy};
-ghost use Rattle.forced_bounds.specs.Lists.{IsIn};
+ghost use Rattle.comp_graph.specs.Lists.{IsIn};
 ghost use Rattle.potential_cert.specs.Order.{precedes};
 ghost use Rattle.potential_cert.specs.Table.{HasRow, IsRising};
 ghost use Rattle.cover_cert.specs.declared.making.Name.{Name};

@@ -1,6 +1,7 @@
 //! The search that names covering rows: turns until the budget is spent or no place waits, and the answer that is made of what they leave.
 ghost use Rattle.std.specs.Prelude.{◌≡◌, ◌+◌, ◌<◌, ◌≤◌, ◌≢◌, length, IfOk};
 ghost use Rattle.comp_graph.specs.Games.{IsGame, game_of};
+ghost use Rattle.step_count.specs.Openings.{Opens};
 ghost use Rattle.pebble_rules.specs.Rules.{start};
 ghost use Rattle.normal_steps.specs.Steps.{IsFinishing, total_cost};
 ghost use Rattle.branch_bound.specs.Frontiers.{best_of, store_of};
@@ -66,7 +67,7 @@ fn run<L: Ledger>(
         from: None,
         step: Step::Drop(0),
     };
-    let mut frontier = begin(alloc, game, first, &best, 0)?;
+    let mut frontier = begin(alloc, game, first, &best)?;
     let mut made = Vec::new(alloc);
     for turn in 0..budget {
         match frontier.next(&best) {
@@ -166,9 +167,7 @@ fn cover_search_uncounted<'g, L: Ledger>(
     blank: Blank,
 ) -> Result<CoverFound<'g>, NoMemory>
     requires budget { budget ≤ 8000 }
-    requires name { blank.name ≡ L.name }
-    requires parts { blank.parts ≡ L.parts }
-    requires some { 0 < L.parts }
+    requires blank { Opens L.name L.parts blank }
     ensures { IfOk result (IsCoverFound first.entry budget) }
 {
     let mut steps = Steps::<L>::new(blank);

@@ -3,7 +3,7 @@ ghost use Rattle.std.specs.Prelude.{◌≡◌, ◌≤◌, ℕ, List};
 ghost use Rattle.comp_graph.specs.Games.{IsGame, game_of};
 ghost use Rattle.normal_steps.specs.Sound.{IsSound};
 ghost use Rattle.normal_steps.specs.StepTests.{legal_steps};
-ghost use Rattle.forced_bounds.specs.Lists.{IsIn};
+ghost use Rattle.comp_graph.specs.Lists.{IsIn};
 ghost use Rattle.potential_cert.specs.Order.{precedes};
 ghost use Rattle.potential_cert.specs.Places.{IsAt};
 ghost use Rattle.potential_cert.specs.Table.{IsRising};

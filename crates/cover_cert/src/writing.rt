@@ -1,6 +1,6 @@
 //! Writing a covered table as bytes.
 ghost use Rattle.std.specs.Prelude.{◌≡◌, ◌++◌, ◌≤◌, ◌<◌, ◌^◌, length, flat_map, OnOk, IfOk};
-ghost use Rattle.forced_bounds.specs.Lists.{IsIn};
+ghost use Rattle.comp_graph.specs.Lists.{IsIn};
 ghost use Rattle.cover_cert.specs.declared.tables.Cover.{Cover};
 ghost use Rattle.cover_cert.specs.CoverTable.{CoverRowParts};
 ghost use Rattle.cover_cert.specs.CoverBytes.{name_bytes, cover_row_bytes, cover_bytes, NameFits, AreRowWords, IsCoverInRange, IsCoverSpelling};

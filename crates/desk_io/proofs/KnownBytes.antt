@@ -5,10 +5,10 @@ use Rattle.std.specs.declared.option.Option.{Option}
 use Rattle.std.specs.Io.KnownBytes.{append_known, prepend_known}
 use Rattle.std.proofs.Math.Seq.{take-add}
 use Rattle.std.proofs.lemmas.List.{take_rest}
-use Rattle.desk_io.specs.Known.{file_and, file_of}
+use Rattle.desk_io.specs.Known.{ToldFile, file_and, file_of}
 
 -- these are the first bytes of the desk's file, if the desk tells it
-abbrev pub BeginsFile : Option (Option (List ℕ)) → List ℕ → Type 0
+abbrev pub BeginsFile : ToldFile → List ℕ → Type 0
 BeginsFile None bytes = ⊤
 BeginsFile (Some None) bytes = bytes ≡ []
 BeginsFile (Some (Some known)) bytes = bytes ≡ take (length bytes) known
@@ -27,7 +27,7 @@ append_known-take (Some xs) before now text done count before_is now_is =
     rw (now_is, before_is, ← part_and_piece text done count) (rw append_assoc refl)
 
 -- the same of a file that was empty at first
-pub file_of-take : (old before now : Option (Option (List ℕ))) (text : List ℕ) (done count : ℕ) →
+pub file_of-take : (old before now : ToldFile) (text : List ℕ) (done count : ℕ) →
     before ≡ file_of old (take done text) → now ≡ file_and before (take count (take (length text - done) (drop done text))) →
     now ≡ file_of old (take (done + count) text)
 file_of-take None before now text done count before_is now_is = rw (now_is, before_is) refl

@@ -1,10 +1,15 @@
 -- What calls do to the input, the file and the output of a desk, where the desk tells them. `None` is not told.
--- Of the file, `Some None` is one that is missing. All of it is this project's convention.
+-- All of it is this project's convention.
 use Rattle.std.specs.Prelude.{◌≡◌, ℕ, ◌<◌, ◌≤◌, List, [], ◌++◌, length, take, drop, ⊤, None, Some, Vec}
 use Rattle.std.specs.declared.alloc.Global.{Global}
 use Rattle.std.specs.declared.option.Option.{Option}
 use Rattle.std.specs.Option.{option_map}
 use Rattle.std.specs.Io.KnownBytes.{prepend_known, IsAtEnd}
+
+-- What a desk tells of its file: `None` if it tells nothing, `Some None` if there is no file, and `Some (Some bytes)` if the file is there with
+-- these bytes.
+abbrev pub ToldFile : Type 0
+ToldFile = Option (Option (List ℕ))
 
 -- the bytes that a file holds, none where it is missing
 abbrev pub held_bytes : Option (List ℕ) → List ℕ
@@ -17,11 +22,11 @@ file_items None = None
 file_items (Some bytes) = Some bytes.items
 
 -- the file with more bytes after those that it holds
-abbrev pub file_and : Option (Option (List ℕ)) → List ℕ → Option (Option (List ℕ))
+abbrev pub file_and : ToldFile → List ℕ → ToldFile
 file_and file bytes = option_map (λ held. Some (held_bytes held ++ bytes)) file
 
 -- a file that is there and holds these bytes
-abbrev pub file_of : Option (Option (List ℕ)) → List ℕ → Option (Option (List ℕ))
+abbrev pub file_of : ToldFile → List ℕ → ToldFile
 file_of file bytes = option_map (λ _. Some bytes) file
 
 -- the input at its end
@@ -34,7 +39,7 @@ pub record TakesInput (before now : Option (List ℕ)) (count : ℕ) (buffer : L
   pub ends : count ≡ 0 → 0 < length buffer → IsAtEnd now
 
 -- the first bytes of a buffer are those of the file from a place on, and none come only past its end
-abbrev pub TakesFile : Option (Option (List ℕ)) → ℕ → ℕ → List ℕ → Type 0
+abbrev pub TakesFile : ToldFile → ℕ → ℕ → List ℕ → Type 0
 TakesFile None from count buffer = ⊤
 TakesFile (Some None) from count buffer = ⊥
 TakesFile (Some (Some bytes)) from count buffer =
@@ -59,13 +64,13 @@ abbrev pub TookMore : Option (List ℕ) → Option (List ℕ) → ℕ → Type 0
 TookMore before now limit = (taken : List ℕ) × (limit < length taken) × (before ≡ prepend_known taken now)
 
 -- the desk's file is there with these bytes, if the desk tells it
-abbrev pub TellsFile : Option (Option (List ℕ)) → List ℕ → Type 0
+abbrev pub TellsFile : ToldFile → List ℕ → Type 0
 TellsFile None bytes = ⊤
 TellsFile (Some None) bytes = ⊥
 TellsFile (Some (Some known)) bytes = known ≡ bytes
 
 -- the desk's file is there with more bytes than a limit, if the desk tells it
-abbrev pub TellsMoreFile : Option (Option (List ℕ)) → ℕ → Type 0
+abbrev pub TellsMoreFile : ToldFile → ℕ → Type 0
 TellsMoreFile None limit = ⊤
 TellsMoreFile (Some None) limit = ⊥
 TellsMoreFile (Some (Some known)) limit = limit < length known

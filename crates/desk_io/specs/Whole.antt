@@ -1,6 +1,7 @@
--- What reading a whole input or file and writing a whole text promise, each promise in one record, for the calls that count their steps. The calls
--- that count nothing promise the same, a clause for each field. All of it is this project's convention. `D` is the type of a desk, with its meanings
--- `name`, `input`, `file`, `output` and `faults`; `old` is the desk before the call and `new` after it.
+-- What reading a whole input or file and writing a whole text promise, each promise in one record, for the calls that count their steps
+-- (`src/counted.rt`). The calls that count nothing (`src/transfer.rt`) promise the same, a clause for each field, which are proved from these
+-- records. All of it is this project's convention. `D` is the type of a desk, with its meanings `name`, `input`, `file`, `output` and `faults`;
+-- `old` is the desk before the call and `new` after it.
 use Rattle.std.specs.Prelude.{◌≡◌, ℕ, ◌<◌, ◌≤◌, ◌⊎◌, List, length, take, Vec, Option, Result, Err, IfOk, OnOk, OnErr, ⊤}
 use Rattle.std.specs.declared.alloc.Global.{Global}
 use Rattle.std.specs.Io.KnownBytes.{append_known, prepend_known}
@@ -10,10 +11,10 @@ use Rattle.desk_io.specs.declared.transfer.ReadEnd.{ReadEnd}
 use Rattle.desk_io.specs.declared.transfer.ReadEnd.TheVariants.{TooLong, ReadFault}
 use Rattle.desk_io.specs.declared.transfer.WriteFault.{WriteFault}
 use Rattle.desk_io.specs.Counts.{Rose}
-use Rattle.desk_io.specs.Known.{file_of, Tells, TellsMore, TookAtMost, TookMore, TellsFile, TellsMoreFile, input_end}
+use Rattle.desk_io.specs.Known.{ToldFile, file_of, Tells, TellsMore, TookAtMost, TookMore, TellsFile, TellsMoreFile, input_end}
 
 -- the input was read to its end, if it has at most so many bytes
-pub record ReadsInput {D : Type 0} (name : D → List ℕ) (input : D → Option (List ℕ)) (file : D → Option (Option (List ℕ))) (output : D → Option (List ℕ))
+pub record ReadsInput {D : Type 0} (name : D → List ℕ) (input : D → Option (List ℕ)) (file : D → ToldFile) (output : D → Option (List ℕ))
     (faults : D → Kind → ℕ) (old new : D) (limit : ℕ) (result : Result (Vec ℕ Global) ReadEnd) : Type 0 where
   -- the text is the whole input, within the limit, and the input is at its end
   pub whole : IfOk result (λ text. Tells (input old) text.items)
@@ -35,7 +36,7 @@ pub record ReadsInput {D : Type 0} (name : D → List ℕ) (input : D → Option
   pub same_output : output new ≡ output old
 
 -- the file was read whole, if it has at most so many bytes
-pub record ReadsFile {D : Type 0} (name : D → List ℕ) (input : D → Option (List ℕ)) (file : D → Option (Option (List ℕ))) (output : D → Option (List ℕ))
+pub record ReadsFile {D : Type 0} (name : D → List ℕ) (input : D → Option (List ℕ)) (file : D → ToldFile) (output : D → Option (List ℕ))
     (faults : D → Kind → ℕ) (old new : D) (limit : ℕ) (result : Result (Vec ℕ Global) ReadEnd) : Type 0 where
   -- the text is the whole file, within the limit
   pub whole : IfOk result (λ text. TellsFile (file old) text.items)
@@ -53,7 +54,7 @@ pub record ReadsFile {D : Type 0} (name : D → List ℕ) (input : D → Option 
   pub same_output : output new ≡ output old
 
 -- the text was appended to the output
-pub record WritesOutput {D : Type 0} (name : D → List ℕ) (input : D → Option (List ℕ)) (file : D → Option (Option (List ℕ))) (output : D → Option (List ℕ))
+pub record WritesOutput {D : Type 0} (name : D → List ℕ) (input : D → Option (List ℕ)) (file : D → ToldFile) (output : D → Option (List ℕ))
     (faults : D → Kind → ℕ) (old new : D) (text : List ℕ) (result : Result ⊤ WriteFault) : Type 0 where
   pub ok : OnOk result (output new ≡ append_known (output old) text)
   -- a fault comes only of a failed put, and leaves a part of the text that is not the whole
@@ -67,7 +68,7 @@ pub record WritesOutput {D : Type 0} (name : D → List ℕ) (input : D → Opti
   pub same_file : file new ≡ file old
 
 -- the file is there with exactly these bytes
-pub record WritesFile {D : Type 0} (name : D → List ℕ) (input : D → Option (List ℕ)) (file : D → Option (Option (List ℕ))) (output : D → Option (List ℕ))
+pub record WritesFile {D : Type 0} (name : D → List ℕ) (input : D → Option (List ℕ)) (file : D → ToldFile) (output : D → Option (List ℕ))
     (faults : D → Kind → ℕ) (old new : D) (bytes : List ℕ) (result : Result ⊤ WriteFault) : Type 0 where
   pub ok : OnOk result (file new ≡ file_of (file old) bytes)
   -- a fault comes only of a failed clear, and then the file stays; or of a failed put, and then it holds a part of the bytes that is not the whole

@@ -5,7 +5,7 @@ ghost use Rattle.std.specs.Io.KnownBytes.{append_known};
 ghost use Rattle.desk_io.specs.declared.desk.Kind.{Kind};
 ghost use Rattle.desk_io.specs.declared.desk.Kind.TheVariants.{TakeInput, TakeFile, PutOutput, PutFile, ClearFile};
 ghost use Rattle.desk_io.specs.Counts.{Counts};
-ghost use Rattle.desk_io.specs.Known.{TakesInput, TakesFile, file_and, file_of};
+ghost use Rattle.desk_io.specs.Known.{ToldFile, TakesInput, TakesFile, file_and, file_of};
 
 use std::fmt;
 
@@ -57,7 +57,7 @@ pub trait Desk {
     ghost input: { Self → Option (List ℕ) };
 
     /// The file, where the desk tells it: missing, or its bytes.
-    ghost file: { Self → Option (Option (List ℕ)) };
+    ghost file: { Self → ToldFile };
 
     /// The bytes of the output so far, where the desk tells them.
     ghost output: { Self → Option (List ℕ) };

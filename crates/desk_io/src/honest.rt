@@ -7,7 +7,7 @@ use crate::memory::copy_front;
 
 /// A desk on which no call fails, so that a law can speak of a run without faults.
 ///
-/// It tells the input that is left. Its file holds `table` for reading and never changes. What is written, to
+/// It tells the input that is left. A take from its file gives the bytes `file`, which never change. What is written, to
 /// the output or to the file, is counted and forgotten. The rules are this project's convention.
 #[derive(Debug, Drop)]
 pub struct HonestDesk {
@@ -16,7 +16,7 @@ pub struct HonestDesk {
     /// The input that is left.
     pub input: Vec<u8>,
     /// The bytes that a take from the file gives.
-    pub table: Vec<u8>,
+    pub file: Vec<u8>,
     /// How many bytes were written to the output and the file; it stands still at 2^64 - 1.
     pub written: u64,
 }
@@ -49,11 +49,11 @@ impl Desk for HonestDesk {
     fn take_file(&mut self, from: u32, buf: &mut [u8]) -> Result<usize, Failed>
         ensures honest { IsOk result }
         ensures bound { IfOk result (λ count. count ≤ length buf.new) }
-        ensures holds { IfOk result (λ count. TakesFile (Some (Some self.old.table.items)) from count buf.new) }
+        ensures holds { IfOk result (λ count. TakesFile (Some (Some self.old.file.items)) from count buf.new) }
         ensures rest { self.new ≡ self.old }
     {
-        let start = (from as usize).min(self.table.len());
-        Ok(copy_front(&self.table[start..], buf.len(), buf))
+        let start = (from as usize).min(self.file.len());
+        Ok(copy_front(&self.file[start..], buf.len(), buf))
     }
 
     fn put_output(&mut self, piece: &[u8]) -> Result<usize, Failed>

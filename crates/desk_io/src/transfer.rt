@@ -1,6 +1,10 @@
 //! A whole input or file is read, and a whole text is written, by calls that take or put any number of bytes. The loops stand in `counted`.
+//!
+//! Each clause here is a field of the record in `specs/Whole.antt` that the counted call promises. This is the list for readers and callers, and
+//! it is proved from that record.
 ghost use Rattle.std.specs.Prelude.{◌≡◌, ℕ, ◌<◌, ◌≤◌, ◌⊎◌, List, length, take, IfOk, OnOk, OnErr};
 ghost use Rattle.std.specs.Io.KnownBytes.{append_known, prepend_known};
+ghost use Rattle.step_count.specs.Openings.{Opens};
 ghost use Rattle.desk_io.specs.declared.desk.Kind.{Kind};
 ghost use Rattle.desk_io.specs.Counts.{Rose};
 ghost use Rattle.desk_io.specs.Known.{file_of, Tells, TellsMore, TookAtMost, TookMore, TellsFile, TellsMoreFile, input_end};
@@ -89,9 +93,7 @@ fn read_input_uncounted<D: Desk, L: Ledger>(
     limit: u32,
     blank: Blank,
 ) -> Result<Vec<u8>, ReadEnd>
-    requires name { blank.name ≡ L.name }
-    requires parts { blank.parts ≡ L.parts }
-    requires one { blank.parts ≡ 1 }
+    requires { Opens L.name L.parts blank }
     ensures { ReadsInput D.name D.input D.file D.output D.faults
         desk.old desk.new limit result }
 {
@@ -134,12 +136,8 @@ fn read_file_uncounted<D: Desk, L: Ledger, B: Ledger>(
     blank: Blank,
     other: Blank,
 ) -> Result<Vec<u8>, ReadEnd>
-    requires name { blank.name ≡ L.name }
-    requires parts { blank.parts ≡ L.parts }
-    requires one { blank.parts ≡ 1 }
-    requires other_name { other.name ≡ B.name }
-    requires other_parts { other.parts ≡ B.parts }
-    requires other_one { other.parts ≡ 1 }
+    requires steps { Opens L.name L.parts blank }
+    requires bytes { Opens B.name B.parts other }
     ensures { ReadsFile D.name D.input D.file D.output D.faults
         desk.old desk.new limit result }
 {
@@ -176,9 +174,7 @@ fn write_output_uncounted<D: Desk, L: Ledger>(
     text: &[u8],
     blank: Blank,
 ) -> Result<(), WriteFault>
-    requires name { blank.name ≡ L.name }
-    requires parts { blank.parts ≡ L.parts }
-    requires one { blank.parts ≡ 1 }
+    requires { Opens L.name L.parts blank }
     ensures { WritesOutput D.name D.input D.file D.output D.faults
         desk.old desk.new text.now result }
 {
@@ -219,9 +215,7 @@ fn write_file_uncounted<D: Desk, L: Ledger>(
     bytes: &[u8],
     blank: Blank,
 ) -> Result<(), WriteFault>
-    requires name { blank.name ≡ L.name }
-    requires parts { blank.parts ≡ L.parts }
-    requires one { blank.parts ≡ 1 }
+    requires { Opens L.name L.parts blank }
     ensures { WritesFile D.name D.input D.file D.output D.faults
         desk.old desk.new bytes.now result }
 {

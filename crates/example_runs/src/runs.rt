@@ -4,7 +4,7 @@ ghost use Rattle.std.specs.declared.option.Option.{Option};
 ghost use Rattle.desk_io.specs.Known.{file_items};
 ghost use Rattle.command_answers.specs.declared.status.Status.{Status};
 ghost use Rattle.pebble_cli.specs.Answers.{Answers};
-ghost use Rattle.pebble_cli.specs.Deliver.{file_after};
+ghost use Rattle.answer_desk.specs.Deliver.{file_after};
 ghost use Rattle.command_words.specs.Words.{asked_by};
 
 use command_answers::Status;

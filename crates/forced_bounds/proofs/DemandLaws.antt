@@ -4,13 +4,12 @@ use Rattle.std.specs.FinSet.{empty, contains, union, difference}
 use Rattle.comp_graph.specs.Vertices.{Vertices, ◌∈◌, ◌∉◌, IsWithin, AllBelow, IsLeast as IsLeastMember}
 use Rattle.comp_graph.specs.Dags.{Dag, IsDag}
 use Rattle.comp_graph.specs.Sets.{membership, same}
-use Rattle.comp_graph.proofs.Sets.{difference_first, difference_second}
+use Rattle.comp_graph.proofs.Sets.{difference_first, difference_second, in_set_below, set_below_parts}
 use Rattle.comp_graph.proofs.DagLaws.{both, either, or-true, and-true, any_below_at, any_below_some}
 use Rattle.pebble_rules.specs.declared.position.Position.{Position}
 use Rattle.forced_bounds.specs.Floor.{needed, wanted}
 use Rattle.forced_bounds.specs.Least.{HoldsNeeded}
-use Rattle.forced_bounds.proofs.Where.{in_where, where_below, where_test, same_test}
-use Rattle.forced_bounds.proofs.Paths.{not_true, true_not}
+use Rattle.forced_bounds.proofs.Paths.{same_test, not_true, true_not}
 use Rattle.forced_bounds.proofs.Sets.{needed_is_least}
 
 pub record IsSwept (g : Dag) (p : Position) (n : ℕ) (found read : Vertices) : Type 0 where
@@ -147,7 +146,7 @@ all_needed g dag p found read swept v =
     holds = record { outputs = swept.starts; preds = λ v u h pred bare. swept.closed v u (omega arith) h pred bare }
 
 pub needed_below : (g : Dag) (p : Position) (v : ℕ) → v ∈ needed g p → v < g.count
-needed_below g p v h = where_below g.count _ v h
+needed_below g p v h = (set_below_parts g.count _ v h).0
 
 -- what is needed, and what it reads that is not red
 pub swept_end : (g : Dag) → IsDag g → (p : Position) (found read : Vertices) → IsSwept g p 0 found read → union found (difference read p.red) ≡ wanted g p
@@ -171,19 +170,19 @@ swept_end g dag p found read swept =
 
     to_wanted : (u : ℕ) → u ∈ union found (difference read p.red) → u ∈ wanted g p
     to_wanted u h = elim (cases u h) [
-      | inl here ↦ let need = is_needed u here in in_where g.count _ u (needed_below g p u need) (or_left (contains (needed g p) u) _ need)
+      | inl here ↦ let need = is_needed u here in in_set_below g.count _ u (needed_below g p u need) (or_left (contains (needed g p) u) _ need)
       | inr pred ↦
           let v = swept.read_by u pred.0 in
           let need = is_needed v.0 v.1 in
           let below = needed_below g p v.0 need in
           let less = dag.preds_below v.0 u v.2 in
-          in_where g.count _ u (omega arith)
+          in_set_below g.count _ u (omega arith)
           (or-true (contains (needed g p) u) _ (and-true (not (contains p.red u)) _ (true_not _ pred.1)
           (any_below_at g.count v.0 (λ v. contains (needed g p) v && contains (g.preds v) u) below (and-true _ _ need v.2))))
     ]
 
     from_wanted : (u : ℕ) → u ∈ wanted g p → u ∈ union found (difference read p.red)
-    from_wanted u h = elim (either (contains (needed g p) u) _ (where_test g.count _ u h)) [
+    from_wanted u h = elim (either (contains (needed g p) u) _ ((set_below_parts g.count _ u h).1)) [
       | inl need ↦ left u (is_found u need)
       | inr reads ↦
           let parts = both (not (contains p.red u)) _ reads in

@@ -1,5 +1,4 @@
 pub mod Paths
-pub mod Where
 pub mod Sets
 pub mod Below
 pub mod Ends

@@ -1,5 +1,5 @@
 -- Paths that keep outside a set.
-use Rattle.std.proofs.Common.{◌≡◌, ℕ, zero, suc, ◌+◌, ◌≤◌, ◌<◌, Bool, true, false, not, ◌&&◌, ◌⊎◌, inl, inr, refl, subst, arith}
+use Rattle.std.proofs.Common.{◌≡◌, ℕ, zero, suc, ◌+◌, ◌≤◌, ◌<◌, Bool, true, false, not, ◌&&◌, ◌⊎◌, inl, inr, refl, sym, subst, arith}
 use Rattle.std.specs.FinSet.{contains}
 use Rattle.comp_graph.specs.Vertices.{Vertices, ◌∈◌, ◌∉◌}
 use Rattle.comp_graph.specs.Dags.{Dag, IsDag}
@@ -11,6 +11,15 @@ use Rattle.forced_bounds.specs.Floor.{leads_outside, reaches, only}
 pub data IsPathOutside (g : Dag) (avoid : Vertices) : ℕ → ℕ → Type 0 where
   point : {v : ℕ} → v ∉ avoid → IsPathOutside g avoid v v
   edge : {v u : ℕ} (w : ℕ) → v ∉ avoid → v ∈ g.preds w → IsPathOutside g avoid w u → IsPathOutside g avoid v u
+
+-- tests that hold together are equal
+pub same_test : (a b : Bool) → (a ≡ true → b ≡ true) → (b ≡ true → a ≡ true) → a ≡ b
+same_test true b there back = sym (there refl)
+same_test false b there back = not_both b back
+  where
+    not_both : (b : Bool) → (b ≡ true → false ≡ true) → false ≡ b
+    not_both true back = back refl
+    not_both false back = refl
 
 pub not_true : (b : Bool) → not b ≡ true → b ≡ false
 not_true true h = absurd (grind arith)

@@ -1,6 +1,7 @@
 -- The sets of the floor by paths, and that they are the least of their kind.
 use Rattle.std.proofs.Common.{◌≡◌, ℕ, zero, suc, ◌<◌, Bool, true, false, not, ◌&&◌, inl, inr, refl, subst, arith}
 use Rattle.std.specs.FinSet.{contains, union}
+use Rattle.comp_graph.proofs.Sets.{in_set_below, set_below_parts, not_set_below}
 use Rattle.comp_graph.specs.Vertices.{Vertices, ◌∈◌, ◌∉◌, any_below}
 use Rattle.comp_graph.specs.Dags.{Dag, IsDag}
 use Rattle.pebble_rules.specs.declared.position.Position.{Position}
@@ -8,19 +9,18 @@ use Rattle.comp_graph.proofs.DagLaws.{both, and-true, any_below_at, any_below_so
 use Rattle.pebble_rules.proofs.Possible.{not_member, true_or_false}
 use Rattle.forced_bounds.specs.Floor.{reaches, only, needed, computable, cone}
 use Rattle.forced_bounds.specs.Least.{HoldsNeeded, HoldsComputable, HoldsCone, NeededIsLeast, ComputableIsLeast, ConeIsLeast}
-use Rattle.forced_bounds.proofs.Where.{in_where, where_below, where_test, not_where}
 use Rattle.forced_bounds.proofs.Paths.{IsPathOutside, point, edge, PathToTarget, path_of, of_path, path_end, path_push, path_last, path_rises, in_only, only_one, not_true, true_not}
 
 -- ---- needed
 
 pub needed_path : (g : Dag) (p : Position) (v : ℕ) → v ∈ needed g p → PathToTarget g (union p.red p.blue) g.outputs v
-needed_path g p v h = path_of g _ _ g.count v (where_test g.count (reaches g (union p.red p.blue) g.outputs) v h)
+needed_path g p v h = path_of g _ _ g.count v ((set_below_parts g.count (reaches g (union p.red p.blue) g.outputs) v h).1)
 
 pub path_needed : (g : Dag) → IsDag g → (p : Position) (v u : ℕ) → u ∈ g.outputs → IsPathOutside g (union p.red p.blue) v u → v ∈ needed g p
 path_needed g dag p v u out path =
     let rises = path_rises g dag _ v u path in
     let below = dag.outputs_are_vertices u out in
-    in_where g.count (reaches g (union p.red p.blue) g.outputs) v (omega arith) (of_path g dag _ _ v u out below path)
+    in_set_below g.count (reaches g (union p.red p.blue) g.outputs) v (omega arith) (of_path g dag _ _ v u out below path)
 
 needed_closed : (g : Dag) → IsDag g → (p : Position) → HoldsNeeded g p (needed g p)
 needed_closed g dag p = record {
@@ -65,15 +65,15 @@ not_not false h = absurd (grind arith)
 
 -- a vertex that is not computable is far
 pub not_computable : (g : Dag) (p : Position) (v : ℕ) → v < g.count → v ∉ computable g p → IsFar g p v
-not_computable g p v below h = far_path g p v (not_not _ (not_where g.count (λ v. not (far g p v)) v below h))
+not_computable g p v below h = far_path g p v (not_not _ (not_set_below g.count (λ v. not (far g p v)) v below h))
 
 pub is_computable : (g : Dag) (p : Position) (v : ℕ) → v < g.count → (IsFar g p v → ⊥) → v ∈ computable g p
-is_computable g p v below h = in_where g.count (λ v. not (far g p v)) v below (true_not _ (not_member _ (λ is. h (far_path g p v is))))
+is_computable g p v below h = in_set_below g.count (λ v. not (far g p v)) v below (true_not _ (not_member _ (λ is. h (far_path g p v is))))
 
 -- a far vertex is not computable
 pub far_not_computable : (g : Dag) → IsDag g → (p : Position) (v : ℕ) → v < g.count → IsFar g p v → v ∉ computable g p
 far_not_computable g dag p v below path =
-    not_member _ (λ is. let no = not_true _ (where_test g.count (λ v. not (far g p v)) v is) in let yes_far = path_far g dag p v below path in grind arith)
+    not_member _ (λ is. let no = not_true _ ((set_below_parts g.count (λ v. not (far g p v)) v is).1) in let yes_far = path_far g dag p v below path in grind arith)
 
 pub red_computable : (g : Dag) (p : Position) (v : ℕ) → v < g.count → v ∈ p.red → v ∈ computable g p
 red_computable g p v below red = is_computable g p v below (λ path. let out = path_end g p.red path.0 v path.2 in grind arith)
@@ -111,7 +111,7 @@ no_far_pred g dag p v w below h not_red pred = elim (true_or_false (contains (co
 computable_within : (g : Dag) → IsDag g → (p : Position) (t : Vertices) → HoldsComputable g p t → (k v : ℕ) → v < k → v ∈ computable g p → v ∈ t
 computable_within g dag p t holds zero v l h = absurd (omega arith)
 computable_within g dag p t holds (suc k) v l h =
-    let below = where_below g.count (λ v. not (far g p v)) v h in
+    let below = (set_below_parts g.count (λ v. not (far g p v)) v h).0 in
     elim (true_or_false (contains p.red v)) [
       | inl red ↦ holds.red v below red
       | inr not_red ↦ holds.computed v below
@@ -129,13 +129,13 @@ computable_is_least g dag p = record {
 
 pub cone_path : (g : Dag) (p : Position) (z v : ℕ) → v ∈ cone g p z → IsPathOutside g (computable g p) v z
 cone_path g p z v h =
-    let path : PathToTarget g (computable g p) (only z) v = path_of g (computable g p) (only z) g.count v (where_test g.count (reaches g (computable g p) (only z)) v h) in
+    let path : PathToTarget g (computable g p) (only z) v = path_of g (computable g p) (only z) g.count v ((set_below_parts g.count (reaches g (computable g p) (only z)) v h).1) in
     subst (λ w. IsPathOutside g (computable g p) v w) (only_one path.0 z path.1) path.2
 
 pub path_cone : (g : Dag) → IsDag g → (p : Position) (z v : ℕ) → z < g.count → IsPathOutside g (computable g p) v z → v ∈ cone g p z
 path_cone g dag p z v below path =
     let rises = path_rises g dag _ v z path in
-    in_where g.count (reaches g (computable g p) (only z)) v (omega arith) (of_path g dag _ _ v z (in_only z) below path)
+    in_set_below g.count (reaches g (computable g p) (only z)) v (omega arith) (of_path g dag _ _ v z (in_only z) below path)
 
 cone_closed : (g : Dag) → IsDag g → (p : Position) (z : ℕ) → z < g.count → z ∉ computable g p → HoldsCone g (computable g p) z (cone g p z)
 cone_closed g dag p z below out = record {

@@ -5,12 +5,13 @@ use Rattle.comp_graph.specs.Vertices.{Vertices, ◌∈◌, ◌∉◌, IsWithin, 
 use Rattle.comp_graph.specs.Dags.{Dag, IsDag}
 use Rattle.comp_graph.specs.Sets.{membership, has_empty}
 use Rattle.comp_graph.proofs.Sets.{size_insert_new, size_le_below, difference_first, difference_second, in_insert, in_insert_same}
-use Rattle.forced_bounds.specs.Reached.{HoldsReached, IsFreeCone, IsMetCone}
+use Rattle.forced_bounds.specs.Least.{HoldsCone}
+use Rattle.forced_bounds.specs.Reached.{IsFreeCone, IsMetCone}
 
 pub record IsSpread (g : Dag) (v : ℕ) (avoid met cone ahead : Vertices) : Type 0 where
   pub itself : v ∈ cone
   pub below : (u : ℕ) → u ∈ union cone ahead → u ≤ v
-  pub least : (t : Vertices) → HoldsReached g v avoid t → IsWithin (union cone ahead) t
+  pub least : (t : Vertices) → HoldsCone g avoid v t → IsWithin (union cone ahead) t
   pub closed : (w u : ℕ) → w ∈ cone → u ∈ g.preds w → u ∉ avoid → u ∈ union cone ahead
   pub free : IsOutside (union cone ahead) met
   pub apart : IsOutside ahead cone

@@ -14,11 +14,11 @@ use Rattle.pebble_rules.proofs.Calls.{has_inputs}
 use Rattle.comp_graph.proofs.Sets.{some_member}
 use Rattle.comp_graph.proofs.DagLaws.{and-true}
 use Rattle.pebble_rules.proofs.Possible.{not_member, true_or_false}
-use Rattle.forced_bounds.specs.Lists.{IsIn}
+use Rattle.comp_graph.specs.Lists.{IsIn}
 use Rattle.forced_bounds.specs.Floor.{wanted, computable, cone, meets, is_apart, taken, floor}
-use Rattle.forced_bounds.specs.Reached.{HoldsReached, IsFreeCone, IsMetCone}
-use Rattle.forced_bounds.proofs.Where.{same_test}
-use Rattle.forced_bounds.proofs.Paths.{point, path_first, path_join, path_rises, true_not}
+use Rattle.forced_bounds.specs.Least.{HoldsCone}
+use Rattle.forced_bounds.specs.Reached.{IsFreeCone, IsMetCone}
+use Rattle.forced_bounds.proofs.Paths.{same_test, point, path_first, path_join, path_rises, true_not}
 use Rattle.forced_bounds.proofs.Sets.{computable_is_least, cone_is_least, cone_path, path_cone, far_not_computable, no_far_pred, red_computable}
 use Rattle.forced_bounds.proofs.Below.{common_meets, any_in}
 
@@ -215,7 +215,7 @@ taken_unwanted g p n computed met count is out far h =
 
 -- the cone is closed for what is computed so far
 cone_reached : (g : Dag) → IsDag g → (p : Position) (n : ℕ) (computed met : Vertices) (count : ℕ) → n < g.count → IsTaken g p n computed met count → n ∉ computable g p
-    → HoldsReached g n computed (cone g p n)
+    → HoldsCone g computed n (cone g p n)
 cone_reached g dag p n computed met count below is far =
     let holds = (cone_is_least g dag p n below far).closed in
     record {

@@ -2,15 +2,10 @@
 use Rattle.std.specs.Prelude.{ℕ, zero, suc, ◌+◌, ◌*◌, Bool, cond, not, ◌&&◌, ◌||◌, ◌==◌, List, [], ◌∷◌, length}
 use Rattle.std.specs.List.{list_any}
 use Rattle.std.specs.FinSet as set
-use Rattle.comp_graph.specs.Vertices.{Vertices, any_below, size}
+use Rattle.comp_graph.specs.Vertices.{Vertices, any_below, set_below, size}
 use Rattle.comp_graph.specs.Dags.{Dag}
 use Rattle.comp_graph.specs.Games.{PebbleGame}
 use Rattle.pebble_rules.specs.declared.position.Position.{Position}
-
--- the numbers below n that pass the test
-abbrev pub vertices_where : ℕ → (ℕ → Bool) → Vertices
-vertices_where zero test = set.empty
-vertices_where (suc n) test = cond (test n) (set.insert (vertices_where n test) n) (vertices_where n test)
 
 -- a path of at most k edges leads from v to a target, and none of its vertices is in `avoid`
 abbrev pub leads_outside : Dag → Vertices → Vertices → ℕ → ℕ → Bool
@@ -28,21 +23,21 @@ only v = set.insert set.empty v
 
 -- the vertices that have no pebble and from which a path without pebbles leads to an output: each has still to be worked on
 abbrev pub needed : Dag → Position → Vertices
-needed g p = vertices_where g.count (reaches g (set.union p.red p.blue) g.outputs)
+needed g p = set_below (reaches g (set.union p.red p.blue) g.outputs) g.count
 
 -- these, and their predecessors that are not red: each has still to become red
 abbrev pub wanted : Dag → Position → Vertices
-wanted g p = vertices_where g.count (λ u.
+wanted g p = set_below (λ u.
     set.contains (needed g p) u
-    || (not (set.contains p.red u) && any_below g.count (λ v. set.contains (needed g p) v && set.contains (g.preds v) u)))
+    || (not (set.contains p.red u) && any_below g.count (λ v. set.contains (needed g p) v && set.contains (g.preds v) u))) g.count
 
 -- the vertices that can become red without a load: no path of vertices that are not red leads to them from an input
 abbrev pub computable : Dag → Position → Vertices
-computable g p = vertices_where g.count (λ v. not (any_below g.count (λ u. set.contains g.inputs u && reaches g p.red (only v) u)))
+computable g p = set_below (λ v. not (any_below g.count (λ u. set.contains g.inputs u && reaches g p.red (only v) u))) g.count
 
 -- the vertices from which a path of vertices that cannot become red without a load leads to v
 abbrev pub cone : Dag → Position → ℕ → Vertices
-cone g p v = vertices_where g.count (reaches g (computable g p) (only v))
+cone g p v = set_below (reaches g (computable g p) (only v)) g.count
 
 -- the two sets have a common member
 abbrev pub meets : Vertices → Vertices → Bool

@@ -3,6 +3,7 @@ use Rattle.std.proofs.Common.{◌≡◌, ℕ, ◌+◌, ◌≤◌, ◌<◌, ◌�
 use Rattle.std.specs.List.{Contains}
 use Rattle.std.specs.FinSet.{contains, difference, empty}
 use Rattle.std.proofs.lemmas.List.Elements.{All-contains}
+use Rattle.comp_graph.proofs.Lists.{contains_in, in_contains}
 use Rattle.comp_graph.specs.Vertices.{Vertices, ◌∈◌, ◌∉◌, IsWithin, AllBelow, size}
 use Rattle.comp_graph.specs.Dags.{degree}
 use Rattle.comp_graph.specs.Games.{PebbleGame}
@@ -24,9 +25,9 @@ pub listed_legal : (n : ℕ) (g : PebbleGame) (p : Position) (works drops spills
     → AreLegalSteps g p (listed n works drops spills)
 listed_legal n g p works drops spills are small small_red removable = record {
   legal = λ s. (
-    All-contains (IsStep g p) (listed n works drops spills) s
-        (all_listed n (IsStep g p) works drops spills (λ v h. (are.members v).0 h) (λ u h. (removable.dropped u).0 h) (λ u h. (removable.spilled u).0 h)),
-    back s,
+    λ i. All-contains (IsStep g p) (listed n works drops spills) s
+        (all_listed n (IsStep g p) works drops spills (λ v h. (are.members v).0 h) (λ u h. (removable.dropped u).0 h) (λ u h. (removable.spilled u).0 h)) (in_contains s _ i),
+    λ can. contains_in _ s (back s can),
   );
   in_order = listed_in_order n works drops spills;
 }

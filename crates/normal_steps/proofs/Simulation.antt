@@ -7,13 +7,14 @@ use Rattle.comp_graph.specs.Games.{PebbleGame}
 use Rattle.normal_steps.specs.Subsequences.{IsSubsequence, none, left_out, kept}
 use Rattle.pebble_rules.specs.Rules.{start, IsMove, moved, move_cost, cost, position_after, computed_by, computed}
 use Rattle.pebble_rules.specs.declared.position.Position.{Position}
-use Rattle.normal_steps.specs.Steps.{CanWork, CanDrop, CanSpill, worked, stepped, IsPlay, play_after, play_cost, CanFinish, finish_cost, work_vertices}
+use Rattle.normal_steps.specs.Steps.{CanWork, CanDrop, CanSpill, IsStep, worked, stepped, step_cost, IsPlay, play_after, play_cost, CanFinish, finish_cost, work_vertices}
 use Rattle.normal_steps.specs.Simulation.{Debts, no_debts, weight, Follows, IsAnswered, EachMoveIsAnswered, EachPebblingIsAnswered, PlaysCostNoMore, PlaysFromStartCostNoMore}
 use Rattle.pebble_rules.specs.declared.moves.Move.{Move}
 use Rattle.pebble_rules.specs.declared.moves.Move.TheVariants.{Load, Store, Compute, DropRed, DropBlue}
 use Rattle.normal_steps.specs.declared.step.Step.{Step}
 use Rattle.normal_steps.specs.declared.step.Step.TheVariants.{Work, Drop, Spill}
 use Rattle.comp_graph.proofs.Sets.{size_empty, size_insert_new, size_insert_le, size_remove, size_split, size_within, size_union_le, member_outside}
+use Rattle.comp_graph.proofs.Appended.{after_both, allowed_both, total_both}
 use Rattle.comp_graph.specs.Sets.{membership, has_union}
 use Rattle.pebble_rules.proofs.Possible.{true_or_false}
 use Rattle.comp_graph.proofs.DagLaws.{live_before, live_output, degree_bounds}
@@ -322,16 +323,13 @@ each_move_is_answered g dag raw normal debts f (DropBlue v) move = stay g _ norm
 -- ---- one play after another
 
 pub append_after : (g : PebbleGame) (p : Position) (ss ts : List Step) → play_after g p (ss ++ ts) ≡ play_after g (play_after g p ss) ts
-append_after g p [] ts = refl
-append_after g p (s ∷ ss) ts = append_after g (stepped g p s) ss ts
+append_after g = after_both (stepped g) (play_after g) (λ p. refl) (λ p s ss. refl)
 
 pub append_play : (g : PebbleGame) (p : Position) (ss ts : List Step) → IsPlay g p ss → IsPlay g (play_after g p ss) ts → IsPlay g p (ss ++ ts)
-append_play g p [] ts h k = k
-append_play g p (s ∷ ss) ts h k = (h.0, append_play g (stepped g p s) ss ts h.1 k)
+append_play g = allowed_both (stepped g) (play_after g) (λ p. refl) (λ p s ss. refl) (IsStep g) (IsPlay g) (λ p s ss both. both) (λ p s ss first rest. (first, rest))
 
 pub append_cost : (g : PebbleGame) (p : Position) (ss ts : List Step) → play_cost g p (ss ++ ts) ≡ play_cost g p ss + play_cost g (play_after g p ss) ts
-append_cost g p [] ts = omega arith
-append_cost g p (s ∷ ss) ts = omega (arith, append_cost g (stepped g p s) ss ts)
+append_cost g = total_both (stepped g) (play_after g) (λ p. refl) (λ p s ss. refl) (step_cost g) (play_cost g) (λ p. refl) (λ p s ss. refl)
 
 pub append_works : (ss ts : List Step) (us vs : List ℕ) → IsSubsequence (work_vertices ss) us → IsSubsequence (work_vertices ts) vs → IsSubsequence (work_vertices (ss ++ ts)) (us ++ vs)
 append_works ss ts us vs h k = subst (λ ws. IsSubsequence ws (us ++ vs)) (sym (works_append ss ts)) (append_subsequences _ us h)

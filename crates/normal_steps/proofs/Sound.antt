@@ -1,6 +1,6 @@
 -- Positions of plays are sound.
-use Rattle.std.proofs.Common.{◌≡◌, ℕ, ◌<◌, [], ◌∷◌, ◌⊎◌, inl, inr, sym, subst, arith}
-use Rattle.std.specs.FinSet.{insert, remove, union}
+use Rattle.std.proofs.Common.{ℕ, ◌<◌, [], ◌∷◌, inl, inr, sym, subst, arith}
+use Rattle.std.specs.FinSet.{remove}
 use Rattle.comp_graph.specs.Vertices.{Vertices, ◌∈◌}
 use Rattle.comp_graph.specs.Dags.{IsDag}
 use Rattle.comp_graph.specs.Games.{PebbleGame}
@@ -9,12 +9,9 @@ use Rattle.normal_steps.specs.Steps.{IsStep, CanWork, stepped, worked}
 use Rattle.normal_steps.specs.Sound.{IsSound, PlaysKeepSound, StartIsSound}
 use Rattle.normal_steps.specs.declared.step.Step.{Step}
 use Rattle.normal_steps.specs.declared.step.Step.TheVariants.{Work, Drop, Spill}
-use Rattle.comp_graph.proofs.Sets.{insert_cases, size_remove, size_empty}
+use Rattle.comp_graph.proofs.Sets.{insert_cases, size_remove, size_empty, worked_cases}
 use Rattle.comp_graph.specs.Sets.{membership}
 use Rattle.comp_graph.proofs.DagLaws.{live_vertex}
-
-worked_cases : (s t : Vertices) (k q : ℕ) → q ∈ insert (union s t) k → (q ≡ k) ⊎ ((q ∈ s) ⊎ (q ∈ t))
-worked_cases s t k q h = grind (arith, membership)
 
 work_below : (g : PebbleGame) → IsDag g.dag → (p : Position) → IsSound g p → (v : ℕ) → CanWork g p v → (q : ℕ) → q ∈ worked g p.red v → q < g.dag.count
 work_below g dag p sound v can q h =

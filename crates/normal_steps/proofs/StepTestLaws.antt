@@ -1,9 +1,11 @@
 -- What the tests of steps say, and that the legal steps in order are one list.
-use Rattle.std.proofs.Common.{◌≡◌, ℕ, zero, suc, ◌<◌, ◌↔◌, ltb, leb, Bool, true, false, not, cond, ◌&&◌, ◌==◌, List, [], ◌∷◌, ◌⊎◌, inl, inr, refl, sym, ap, ◌∙◌, subst, arith}
-use Rattle.std.specs.List.{All, AllPairs, Contains}
+use Rattle.std.proofs.Common.{◌≡◌, ℕ, suc, ◌<◌, ◌↔◌, ltb, leb, Bool, true, false, not, cond, ◌&&◌, ◌==◌, List, [], ◌∷◌, inl, inr, refl, sym, ap, ◌∙◌, subst, arith}
+use Rattle.std.specs.List.{All, AllPairs}
 use Rattle.std.specs.FinSet.{empty, contains, union, difference}
 use Rattle.std.proofs.lemmas.Bool.{and_parts}
-use Rattle.std.proofs.lemmas.List.Elements.{All-contains, Contains-append_right}
+use Rattle.std.proofs.lemmas.List.Elements.{All-contains}
+use Rattle.comp_graph.specs.Lists.{IsIn}
+use Rattle.comp_graph.proofs.Lists.{in_contains}
 use Rattle.comp_graph.specs.Vertices.{Vertices, ◌∈◌, IsWithin, size}
 use Rattle.comp_graph.specs.Dags.{IsDag, is_live}
 use Rattle.comp_graph.specs.Games.{PebbleGame}
@@ -125,18 +127,8 @@ no_way_back (Spill v) (Work w) h k = h
 no_way_back (Spill v) (Drop w) h k = h
 no_way_back (Spill v) (Spill w) h k = omega arith
 
-first_or_later : (x s : Step) (xs : List Step) → Contains (x ∷ xs) s → (x ≡ s) ⊎ Contains xs s
-first_or_later x s xs (zero, below, is) = inl is
-first_or_later x s xs (suc k, below, is) = inr (k, omega arith, is)
-
-first_there : (x : Step) (xs : List Step) → Contains (x ∷ xs) x
-first_there x xs = (0, omega arith, refl)
-
-later_of : (x s : Step) (xs : List Step) → Contains xs s → Contains (x ∷ xs) s
-later_of x s xs h = Contains-append_right (x ∷ []) xs s h
-
-none_there : (s : Step) → Contains [] s → ⊥
-none_there s (k, below, is) = omega arith
+each_in : (P : Step → Type 0) (xs : List Step) (s : Step) → All P xs → IsIn s xs → P s
+each_in P xs s all i = All-contains P xs s all (in_contains s xs i)
 
 after_first : (x : Step) (xs : List Step) → AllPairs Precedes (x ∷ xs) → All (Precedes x) xs
 after_first x xs h k d below = h 0 (suc k) d (omega arith) (omega arith)
@@ -145,34 +137,33 @@ later_pairs : (x : Step) (xs : List Step) → AllPairs Precedes (x ∷ xs) → A
 later_pairs x xs h i j d l below = h (suc i) (suc j) d (omega arith) (omega arith)
 
 abbrev SameSteps : List Step → List Step → Type 0
-SameSteps xs ys = (s : Step) → Contains xs s ↔ Contains ys s
+SameSteps xs ys = (s : Step) → IsIn s xs ↔ IsIn s ys
 
 same_first : (x y : Step) (xs ys : List Step) → SameSteps (x ∷ xs) (y ∷ ys) → AllPairs Precedes (x ∷ xs) → AllPairs Precedes (y ∷ ys) → x ≡ y
 same_first x y xs ys alike a b =
-    elim (first_or_later y x ys ((alike x).0 (first_there x xs))) [
-      | inl e ↦ sym e
-      | inr later_x ↦ elim (first_or_later x y xs ((alike y).1 (first_there y ys))) [
-        | inl e ↦ e
-        | inr later_y ↦
-            absurd (no_way_back x y (All-contains (Precedes x) xs y (after_first x xs a) later_y) (All-contains (Precedes y) ys x (after_first y ys b) later_x))
+    elim ((alike x).0 (inl refl)) [
+      | inl e ↦ e
+      | inr later_x ↦ elim ((alike y).1 (inl refl)) [
+        | inl e ↦ sym e
+        | inr later_y ↦ absurd (no_way_back x y (each_in (Precedes x) xs y (after_first x xs a) later_y) (each_in (Precedes y) ys x (after_first y ys b) later_x))
       ]
     ]
 
-rest_within : (x : Step) (xs ys : List Step) → ((s : Step) → Contains (x ∷ xs) s → Contains (x ∷ ys) s) → AllPairs Precedes (x ∷ xs) → (s : Step) → Contains xs s → Contains ys s
+rest_within : (x : Step) (xs ys : List Step) → ((s : Step) → IsIn s (x ∷ xs) → IsIn s (x ∷ ys)) → AllPairs Precedes (x ∷ xs) → (s : Step) → IsIn s xs → IsIn s ys
 rest_within x xs ys alike a s h =
-    elim (first_or_later x s ys (alike s (later_of x s xs h))) [
-      | inl e ↦ absurd (no_loop x (subst (Precedes x) (sym e) (All-contains (Precedes x) xs s (after_first x xs a) h)))
+    elim (alike s (inr h)) [
+      | inl e ↦ absurd (no_loop x (subst (Precedes x) e (each_in (Precedes x) xs s (after_first x xs a) h)))
       | inr later ↦ later
     ]
 
 one_order : (xs ys : List Step) → SameSteps xs ys → AllPairs Precedes xs → AllPairs Precedes ys → xs ≡ ys
 one_order [] [] alike a b = refl
-one_order [] (y ∷ ys) alike a b = absurd (none_there y ((alike y).1 (first_there y ys)))
-one_order (x ∷ xs) [] alike a b = absurd (none_there x ((alike x).0 (first_there x xs)))
+one_order [] (y ∷ ys) alike a b = absurd ((alike y).1 (inl refl))
+one_order (x ∷ xs) [] alike a b = absurd ((alike x).0 (inl refl))
 one_order (x ∷ xs) (y ∷ ys) alike a b =
     let e : x ≡ y = same_first x y xs ys alike a b in
-    let there = subst (λ z. (s : Step) → Contains (x ∷ xs) s → Contains (z ∷ ys) s) (sym e) (λ s. (alike s).0) in
-    let back = subst (λ z. (s : Step) → Contains (z ∷ ys) s → Contains (x ∷ xs) s) (sym e) (λ s. (alike s).1) in
+    let there = subst (λ z. (s : Step) → IsIn s (x ∷ xs) → IsIn s (z ∷ ys)) (sym e) (λ s. (alike s).0) in
+    let back = subst (λ z. (s : Step) → IsIn s (z ∷ ys) → IsIn s (x ∷ xs)) (sym e) (λ s. (alike s).1) in
     let b_at_x = subst (λ z. AllPairs Precedes (z ∷ ys)) (sym e) b in
     let rest = one_order xs ys (λ s. (rest_within x xs ys there a s, rest_within x ys xs back b_at_x s)) (later_pairs x xs a) (later_pairs y ys b) in
     (λ i. e i ∷ rest i)

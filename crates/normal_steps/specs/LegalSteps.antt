@@ -1,6 +1,7 @@
 -- The legal steps of a position in one order, this project's own: Work, then Drop, then Spill, and each kind by rising vertex.
 use Rattle.std.specs.Prelude.{ℕ, ◌<◌, ◌↔◌, List, ◌++◌, map, ⊤}
-use Rattle.std.specs.List.{Contains, AllPairs}
+use Rattle.std.specs.List.{AllPairs}
+use Rattle.comp_graph.specs.Lists.{IsIn}
 use Rattle.comp_graph.specs.Vertices.{Vertices, ◌∈◌, rising}
 use Rattle.comp_graph.specs.Games.{PebbleGame}
 use Rattle.pebble_rules.specs.declared.position.Position.{Position}
@@ -22,7 +23,7 @@ Precedes (Spill v) (Spill w) = v < w
 
 -- the list has just the legal steps, and each comes before all that follow it, so none is there twice
 pub record AreLegalSteps (g : PebbleGame) (p : Position) (ss : List Step) : Type 0 where
-  pub legal : (s : Step) → Contains ss s ↔ IsStep g p s
+  pub legal : (s : Step) → IsIn s ss ↔ IsStep g p s
   pub in_order : AllPairs Precedes ss
 
 -- the members are the vertices that Work is legal for

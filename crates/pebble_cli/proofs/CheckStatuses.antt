@@ -18,7 +18,9 @@ use Rattle.command_answers.specs.CheckAnswers.{Checks, IsCertificate, IsCertifie
 use Rattle.pebble_cli.specs.CheckLaws.{CheckStatuses, DoneWhereCertified, RefusedWhereNot, PlansAreAccepted}
 use Rattle.command_answers.specs.PlayedGames.{played_on}
 use Rattle.command_answers.specs.Refusals.{IsFaulty, IsTooSmall}
-use Rattle.pebble_cli.proofs.AnswerLaws.{Kinds, faulty, not_code, small, last, kind_of, to_last}
+use Rattle.desk_io.specs.Known.{ToldFile}
+use Rattle.pebble_cli.proofs.AnswerLaws.{Kinds, faulty, not_code, small, last, kind_of, to_own}
+use Rattle.command_answers.proofs.OneChecks as one_file
 use Rattle.pebble_cli.proofs.CheckKept as to_check
 use Rattle.pebble_cli.proofs.CommandLaws.{the_input, with_slots}
 
@@ -35,10 +37,10 @@ check_statuses asked input file status printed table h = by_kind (kind_of (Check
     by_kind (last (inr k)) = inr (inr (inr (k.ends, k)))
 
 -- the check of an accepted kernel with enough slots
-checked : (asked : Checking) (input : List ℕ) (file : Option (Option (List ℕ))) (status : Status) (printed : List ℕ) (table : Option (List ℕ)) (kernel : KernelParts) (graph : GraphParts)
+checked : (asked : Checking) (input : List ℕ) (file : ToldFile) (status : Status) (printed : List ℕ) (table : Option (List ℕ)) (kernel : KernelParts) (graph : GraphParts)
     → Answers (Some (Check asked)) input file status printed table → IsAccepted input kernel graph → degree (dag_of graph) < asked.slots → Checks asked input file status printed table
 checked asked input file status printed table kernel graph h accepted room =
-    to_last (Check asked) input file status printed table (to_check.admits asked input kernel graph accepted room) (kind_of (Check asked) refl h)
+    to_own (Check asked) input file status printed table (to_check.admits asked input kernel graph accepted room) (kind_of (Check asked) refl h)
 
 pub done_where_certified : DoneWhereCertified
 done_where_certified asked input bytes status printed table kernel graph h accepted room t is =
@@ -46,12 +48,12 @@ done_where_certified asked input bytes status printed table kernel graph h accep
   where
     by_kind : Checks asked input (Some (Some bytes)) status printed table → (status ≡ Done) × (printed ≡ accepted_text t.bound)
     by_kind (inl k) =
-        let here = to_check.moved (λ g bytes. IsCertificate g bytes t) asked input kernel k.kernel graph k.graph bytes k.bytes accepted k.accepted k.held is in
-        let same = to_check.one_certificate (played_on k.graph asked.slots asked.weights) k.bytes k.certificate t k.certifies here in
+        let here = one_file.moved (λ g bytes. IsCertificate g bytes t) asked input kernel k.kernel graph k.graph bytes k.bytes accepted k.accepted k.held is in
+        let same = one_file.one_certificate (played_on k.graph asked.slots asked.weights) k.bytes k.certificate t k.certifies here in
         (k.ends, k.line ∙ ap (λ u. accepted_text u.bound) same)
     by_kind (inr k) =
-        let here = to_check.moved (λ g bytes. IsCertificate g bytes t) asked input kernel k.kernel graph k.graph bytes k.bytes accepted k.accepted k.held is in
-        to_check.certified_or_not (played_on k.graph asked.slots asked.weights) k.bytes t k.reason k.row here k.refused
+        let here = one_file.moved (λ g bytes. IsCertificate g bytes t) asked input kernel k.kernel graph k.graph bytes k.bytes accepted k.accepted k.held is in
+        one_file.certified_or_not (played_on k.graph asked.slots asked.weights) k.bytes t k.reason k.row here k.refused
 
 pub refused_where_not : RefusedWhereNot
 refused_where_not asked input bytes status printed table kernel graph h accepted room reason row is =
@@ -59,11 +61,11 @@ refused_where_not asked input bytes status printed table kernel graph h accepted
   where
     by_kind : Checks asked input (Some (Some bytes)) status printed table → (status ≡ Refused) × (printed ≡ refused_text reason row)
     by_kind (inl k) =
-        let here = to_check.moved (λ g bytes. IsRefused g bytes reason row) asked input kernel k.kernel graph k.graph bytes k.bytes accepted k.accepted k.held is in
-        to_check.certified_or_not (played_on k.graph asked.slots asked.weights) k.bytes k.certificate reason row k.certifies here
+        let here = one_file.moved (λ g bytes. IsRefused g bytes reason row) asked input kernel k.kernel graph k.graph bytes k.bytes accepted k.accepted k.held is in
+        one_file.certified_or_not (played_on k.graph asked.slots asked.weights) k.bytes k.certificate reason row k.certifies here
     by_kind (inr k) =
-        let here = to_check.moved (λ g bytes. IsRefused g bytes reason row) asked input kernel k.kernel graph k.graph bytes k.bytes accepted k.accepted k.held is in
-        let same = to_check.one_refusal (played_on k.graph asked.slots asked.weights) k.bytes k.reason reason k.row row k.refused here in
+        let here = one_file.moved (λ g bytes. IsRefused g bytes reason row) asked input kernel k.kernel graph k.graph bytes k.bytes accepted k.accepted k.held is in
+        let same = one_file.one_refusal (played_on k.graph asked.slots asked.weights) k.bytes k.reason reason k.row row k.refused here in
         (k.ends, k.line ∙ ap (λ r. refused_text r k.row) same.0 ∙ ap (refused_text reason) same.1)
 
 -- ---- what `plan` wrote

@@ -25,7 +25,7 @@ use Rattle.command_words.specs.declared.commands.TrialPlanning.{TrialPlanning}
 use Rattle.command_answers.specs.declared.status.Status.{Status}
 use Rattle.command_answers.specs.declared.status.Status.TheVariants.{Optimal, Open, Done, Kernel, TooSmall, Values}
 use Rattle.command_answers.specs.Accepted.{IsAccepted, IsKernelFault}
-use Rattle.pebble_cli.specs.Answers.{Answers, last_answer}
+use Rattle.pebble_cli.specs.Answers.{Answers, own_answer}
 use Rattle.pebble_cli.specs.Faults.{of_file, of_input}
 use Rattle.command_answers.specs.GraphAnswers.{IsDrawn}
 use Rattle.pebble_cli.specs.GraphLaws.{GraphStatuses, DoneWhereAccepted}
@@ -34,12 +34,13 @@ use Rattle.pebble_cli.specs.PlanLaws.{PlanStatuses, PlansAreAnswered, PlansAreAs
 use Rattle.command_answers.specs.PlayedGames.{played_for}
 use Rattle.command_answers.specs.Refusals.{IsFaulty, IsTooSmall}
 use Rattle.command_answers.specs.RunAnswers.{IsValued, IsWrongValues}
+use Rattle.desk_io.specs.Known.{ToldFile}
 use Rattle.command_answers.specs.ValuesFiles.{values_fault_text}
 use Rattle.pebble_cli.specs.RunLaws.{RunStatuses, DoneWhereValues, ValuesWhereNone}
 use Rattle.command_answers.specs.TrialAnswers.{IsTried}
 use Rattle.pebble_cli.specs.TrialLaws.{TrialStatuses, DoneWhereRoom, TrialsAreAsShown, NoReadOfTrials}
 use Rattle.command_answers.proofs.Accepting.{accepted_graph, accepted_once, no_fault_of_accepted}
-use Rattle.pebble_cli.proofs.AnswerLaws.{Kinds, faulty, not_code, small, last, kind_of, to_last, one_answer}
+use Rattle.pebble_cli.proofs.AnswerLaws.{Kinds, faulty, not_code, small, last, kind_of, to_own, one_answer}
 use Rattle.command_answers.proofs.FoundPlans.{first_finishes, found_no_worse}
 use Rattle.command_answers.proofs.OnePlans.{planned_is, tried_is}
 use Rattle.pebble_cli.proofs.GraphKept as to_graph
@@ -80,10 +81,10 @@ plan_statuses asked input file status printed table h = by_kind (kind_of (Plan a
     by_kind (last k) = inr (inr (verdict_is k.plan.numbers.optimal k.ends, k))
 
 -- the plan of an accepted kernel with enough slots
-planned : (asked : Planning) (input : List ℕ) (file : Option (Option (List ℕ))) (status : Status) (printed : List ℕ) (table : Option (List ℕ)) (kernel : KernelParts) (graph : GraphParts)
+planned : (asked : Planning) (input : List ℕ) (file : ToldFile) (status : Status) (printed : List ℕ) (table : Option (List ℕ)) (kernel : KernelParts) (graph : GraphParts)
     → Answers (Some (Plan asked)) input file status printed table → IsAccepted input kernel graph → degree (dag_of graph) < asked.slots → IsPlanned asked input status printed table
 planned asked input file status printed table kernel graph h accepted room =
-    to_last (Plan asked) input file status printed table (to_plan.admits asked input kernel graph accepted room) (kind_of (Plan asked) refl h)
+    to_own (Plan asked) input file status printed table (to_plan.admits asked input kernel graph accepted room) (kind_of (Plan asked) refl h)
 
 pub plans_are_answered : PlansAreAnswered
 plans_are_answered asked input file status printed table kernel graph h accepted room =
@@ -163,7 +164,7 @@ done_where_values input bytes status printed table kernel graph h accepted value
       lines = refl;
       none = refl;
     } in
-    let same = one_answer (Some Run) input (Some (Some bytes)) status printed table h Done text None (λ last reads. (Some bytes, refl)) (last_answer Run refl (inl there)) in
+    let same = one_answer (Some Run) input (Some (Some bytes)) status printed table h Done text None (λ last reads. (Some bytes, refl)) (own_answer Run refl (inl there)) in
     (same.0, same.1)
 
 pub values_where_none : ValuesWhereNone
@@ -179,7 +180,7 @@ values_where_none input bytes status printed table kernel graph h accepted none 
       line = refl;
       none = refl;
     } in
-    let same = one_answer (Some Run) input (Some (Some bytes)) status printed table h Values values_fault_text None (λ last reads. (Some bytes, refl)) (last_answer Run refl (inr there)) in
+    let same = one_answer (Some Run) input (Some (Some bytes)) status printed table h Values values_fault_text None (λ last reads. (Some bytes, refl)) (own_answer Run refl (inr there)) in
     (same.0, same.1)
 
 -- ---- graph
@@ -195,7 +196,7 @@ graph_statuses input file status printed table h = by_kind (kind_of Graph refl h
 
 pub done_where_accepted : DoneWhereAccepted
 done_where_accepted input file status printed table kernel graph h accepted =
-    let k = to_last Graph input file status printed table (to_graph.admits input kernel graph accepted) (kind_of Graph refl h) in
+    let k = to_own Graph input file status printed table (to_graph.admits input kernel graph accepted) (kind_of Graph refl h) in
     (k.ends, k.lines ∙ ap graph_text (accepted_once input k.kernel kernel k.graph graph k.accepted accepted).1)
 
 -- ---- trial
@@ -217,11 +218,11 @@ trial_statuses asked input file status printed table limits h = by_kind (kind_of
     by_kind (last k) = inr (k.ends, k)
 
 -- the plan of a trial kernel with enough slots
-tried : (asked : TrialPlanning) (input : List ℕ) (file : Option (Option (List ℕ))) (status : Status) (printed : List ℕ) (table : Option (List ℕ)) (kernel : KernelParts) (graph : GraphParts)
+tried : (asked : TrialPlanning) (input : List ℕ) (file : ToldFile) (status : Status) (printed : List ℕ) (table : Option (List ℕ)) (kernel : KernelParts) (graph : GraphParts)
     → Answers (Some (Trial asked)) input file status printed table → IsAccepted (trial_kernel asked.statements) kernel graph → degree (dag_of graph) < asked.slots
     → IsTried asked status printed table
 tried asked input file status printed table kernel graph h accepted room =
-    to_last (Trial asked) input file status printed table (to_trial.admits asked input kernel graph accepted room) (kind_of (Trial asked) refl h)
+    to_own (Trial asked) input file status printed table (to_trial.admits asked input kernel graph accepted room) (kind_of (Trial asked) refl h)
 
 pub done_where_room : DoneWhereRoom
 done_where_room asked input file status printed table limits h kernel graph accepted room =

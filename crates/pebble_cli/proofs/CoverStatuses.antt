@@ -11,6 +11,7 @@ use Rattle.command_answers.specs.Accepted.{IsAccepted}
 use Rattle.command_answers.specs.CheckAnswers.{accepted_text, refused_text}
 use Rattle.command_answers.specs.CoverAnswers.{IsCovered}
 use Rattle.command_answers.specs.CoverCheckAnswers.{CoverChecks, IsCoverRefusedFile}
+use Rattle.desk_io.specs.Known.{ToldFile}
 use Rattle.command_answers.proofs.Accepting.{accepted_graph, accepted_once}
 use Rattle.command_answers.proofs.CoverFiles.{cover_check_is_one, is_cover_certified}
 use Rattle.command_answers.proofs.OneCovers.{covered_is_certificate, covered_is_optimal}
@@ -46,7 +47,7 @@ cover_check_statuses slots input file status printed table h = refused_or (Cover
   | inr refused ↦ inr (refused.ends, refused)
 ])
 
-checked : (slots : ℕ) (input : List ℕ) (file : Option (Option (List ℕ))) (status : Status) (printed : List ℕ) (table : Option (List ℕ)) (kernel : KernelParts) (graph : GraphParts)
+checked : (slots : ℕ) (input : List ℕ) (file : ToldFile) (status : Status) (printed : List ℕ) (table : Option (List ℕ)) (kernel : KernelParts) (graph : GraphParts)
     → Answers (Some (CoverCheck slots)) input file status printed table → IsAccepted input kernel graph → degree (dag_of graph) < slots → CoverChecks slots input file status printed table
 checked slots input file status printed table kernel graph h accepted room =
     own_answer (CoverCheck slots) slots input file status printed table kernel graph refl refl h accepted room

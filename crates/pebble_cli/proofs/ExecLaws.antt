@@ -7,11 +7,11 @@ use Rattle.plan_report.specs.OutputsText.{outputs_text}
 use Rattle.scratch_machine.specs.Machines.{Ending, transfers}
 use Rattle.command_words.specs.declared.commands.Command.TheVariants.{Exec}
 use Rattle.command_answers.specs.declared.status.Status.TheVariants.{Done, Code, Values, ExecFault}
-use Rattle.pebble_cli.specs.Answers.{last_answer}
+use Rattle.pebble_cli.specs.Answers.{own_answer}
 use Rattle.command_answers.specs.CodeInputs.{IsNoCode}
 use Rattle.command_answers.specs.ExecAnswers.{IsRunToEnd, IsEmptyRead, IsWrongInputs, exec_fault_text, place_of, ran_text, transfers_text}
 use Rattle.pebble_cli.specs.ExecLaws.{ExecStatuses, DoneWhereRun, FaultWhereEmpty, ValuesWhereWrong, PlansReadBack, PlansRunAsSources}
-use Rattle.command_answers.specs.PlanAnswers.{RunsRight, run_weight}
+use Rattle.command_answers.specs.RightCodes.{RunsRight, run_weight}
 use Rattle.command_answers.specs.RunAnswers.{IsValuesFile}
 use Rattle.command_answers.specs.ValuesFiles.{HoldsValues, values_fault_text}
 use Rattle.command_answers.proofs.Accepting.{accepted_once}
@@ -40,7 +40,7 @@ pub done_where_run : DoneWhereRun
 done_where_run input bytes status printed table code h is values ending given runs =
     let there : IsRunToEnd input (Some (Some bytes)) Done (ran_text code ending) None =
     record { code = code; input = is; bytes = bytes; held = refl; values = values; given = given; ending = ending; runs = runs; ends = refl; lines = refl; none = refl } in
-    let same = one_answer (Some Exec) input (Some (Some bytes)) status printed table h Done (ran_text code ending) None (λ last reads. (Some bytes, refl)) (last_answer Exec refl (inl there)) in
+    let same = one_answer (Some Exec) input (Some (Some bytes)) status printed table h Done (ran_text code ending) None (λ last reads. (Some bytes, refl)) (own_answer Exec refl (inl there)) in
     (same.0, same.1)
 
 pub fault_where_empty : FaultWhereEmpty
@@ -48,14 +48,14 @@ fault_where_empty input bytes status printed table code h is values fault given 
     let line = exec_fault_text (place_of fault) in
     let there : IsEmptyRead input (Some (Some bytes)) ExecFault line None =
     record { code = code; input = is; bytes = bytes; held = refl; values = values; given = given; fault = fault; faults = faults; ends = refl; line = refl; none = refl } in
-    let same = one_answer (Some Exec) input (Some (Some bytes)) status printed table h ExecFault line None (λ last reads. (Some bytes, refl)) (last_answer Exec refl (inr (inl there))) in
+    let same = one_answer (Some Exec) input (Some (Some bytes)) status printed table h ExecFault line None (λ last reads. (Some bytes, refl)) (own_answer Exec refl (inr (inl there))) in
     (same.0, same.1)
 
 pub values_where_wrong : ValuesWhereWrong
 values_where_wrong input bytes status printed table code h is none =
     let there : IsWrongInputs input (Some (Some bytes)) Values values_fault_text None =
     record { code = code; input = is; bytes = bytes; held = refl; wrong = none; ends = refl; line = refl; none = refl } in
-    let same = one_answer (Some Exec) input (Some (Some bytes)) status printed table h Values values_fault_text None (λ last reads. (Some bytes, refl)) (last_answer Exec refl (inr (inr there))) in
+    let same = one_answer (Some Exec) input (Some (Some bytes)) status printed table h Values values_fault_text None (λ last reads. (Some bytes, refl)) (own_answer Exec refl (inr (inr there))) in
     (same.0, same.1)
 
 -- ---- what `plan` prints
@@ -68,8 +68,8 @@ plans_run_as_sources asked text status printed table limits h short kernel graph
     let same : kernel ≡ h.kernel = (accepted_once text kernel h.kernel graph h.graph accepted h.accepted).0 in
     let here : IsValuesFile h.kernel bytes values = subst (λ k. IsValuesFile k bytes values) same given in
     let source = done_where_values text bytes ran lines none h.kernel h.graph ran_answer h.accepted values here in
-    let count : length (labels_of Input h.kernel.decls) ≡ length h.plan.code.inputs = ap length (sym h.answer.code_inputs) in
-    let right = h.answer.right values here.counted in
+    let count : length (labels_of Input h.kernel.decls) ≡ length h.plan.code.inputs = ap length (sym h.answer.right.inputs) in
+    let right = h.answer.right.right values here.counted in
     let reads = plans_read_back asked text status printed table limits h short in
     let code = done_where_run printed bytes done more other h.plan.code exec_answer reads values right.ending (subst (λ n. HoldsValues n bytes values) count here) right.runs in (
       source.0,
@@ -86,7 +86,7 @@ plans_run_as_sources asked text status printed table limits h short kernel graph
     text_is : (right : RunsRight h.kernel asked.weights h.plan.code h.plan.numbers.cost values)
         → ran_text h.plan.code right.ending ≡ outputs_text (labels_of Output h.kernel.decls) (outputs h.kernel values) ++ transfers_text (transfers right.ending)
     text_is right =
-        let labels = h.answer.code_outputs in
+        let labels = h.answer.right.outputs in
         let found = right.same in
         λ i. outputs_text (labels i) (found i) ++ transfers_text (transfers right.ending)
 

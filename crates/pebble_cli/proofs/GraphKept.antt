@@ -1,4 +1,4 @@
--- The last answers of `graph`: one to each accepted kernel.
+-- The own answers of `graph`: one to each accepted kernel.
 use Rattle.std.proofs.Common.{◌≡◌, ℕ, List, Option, None, refl, sym, ap, ◌∙◌, subst}
 use Rattle.comp_graph.specs.Graphs.{GraphParts}
 use Rattle.kernel_ast.specs.KernelParts.{KernelParts}
@@ -9,19 +9,20 @@ use Rattle.command_answers.specs.declared.status.Status.TheVariants.{Done}
 use Rattle.command_answers.specs.Accepted.{IsAccepted}
 use Rattle.pebble_cli.specs.Answers.{IsAdmitted, kernel_with_room, code_input}
 use Rattle.command_answers.specs.GraphAnswers.{IsDrawn}
-use Rattle.command_answers.specs.Status.{is_last}
+use Rattle.command_answers.specs.Status.{is_own}
+use Rattle.desk_io.specs.Known.{ToldFile}
 use Rattle.command_answers.proofs.Accepting.{accepted_once}
-use Rattle.pebble_cli.proofs.LastAnswers.{IsKept, HasLast, AreKept, AreOne}
+use Rattle.pebble_cli.proofs.OwnAnswers.{IsKept, HasOwn, AreKept, AreOne}
 
 -- an accepted kernel is admitted
 pub admits : (input : List ℕ) (kernel : KernelParts) (graph : GraphParts) → IsAccepted input kernel graph → IsAdmitted Graph input
 admits input kernel graph accepted = kernel_with_room input refl (record { kernel = kernel; graph = graph; accepted = accepted; room = λ count e. absurd (cc) })
 
-kept : (input : List ℕ) (file : Option (Option (List ℕ))) (status : Status) (printed : List ℕ) (table : Option (List ℕ))
+kept : (input : List ℕ) (file : ToldFile) (status : Status) (printed : List ℕ) (table : Option (List ℕ))
     → IsDrawn input status printed table → IsKept Graph input file status printed table
 kept input file status printed table h = record {
   admitted = admits input h.kernel h.graph h.accepted;
-  last = ap is_last h.ends;
+  last = ap is_own h.ends;
   untold = λ e. h.none;
   held = λ e. absurd (cc);
 }
@@ -31,7 +32,7 @@ once text s t p q a b h k =
     let same : h.graph ≡ k.graph = (accepted_once text h.kernel k.kernel h.graph k.graph h.accepted k.accepted).1 in
     (h.ends ∙ sym k.ends, h.lines ∙ ap graph_text same ∙ sym k.lines, h.none ∙ sym k.none)
 
-some : (input : List ℕ) (file : Option (Option (List ℕ))) → IsAdmitted Graph input → HasLast Graph input file
+some : (input : List ℕ) (file : ToldFile) → IsAdmitted Graph input → HasOwn Graph input file
 some input file (kernel_with_room text e h) =
     let same : text ≡ input = cc in
     record {

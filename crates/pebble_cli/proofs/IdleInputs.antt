@@ -1,6 +1,6 @@
 -- What answers words that read no input: with one input it answers them with any.
 use Rattle.std.proofs.Common.{◌≡◌, ℕ, Bool, true, false, List, Option, Some, refl, sym, ap, ◌∙◌, subst}
-use Rattle.desk_io.specs.Known.{Tells}
+use Rattle.desk_io.specs.Known.{ToldFile, Tells}
 use Rattle.command_words.specs.declared.commands.Command.{Command}
 use Rattle.command_words.specs.declared.commands.Command.TheVariants.{Trial}
 use Rattle.command_words.specs.declared.commands.Subject.{Subject}
@@ -10,7 +10,7 @@ use Rattle.command_answers.specs.declared.status.Status.{Status}
 use Rattle.command_answers.specs.Subjects.{kernel_text}
 use Rattle.command_answers.proofs.ToldBytes.{told_is}
 use Rattle.pebble_cli.specs.AnswerLaws.{AnswersAnyInput, AdmitsAnyInput}
-use Rattle.pebble_cli.specs.Answers.{Answers, usage, faulty_kernel, no_code, too_few_slots, last_answer, LastAnswers, kernel_with_room, code_input}
+use Rattle.pebble_cli.specs.Answers.{Answers, usage, faulty_kernel, no_code, too_few_slots, own_answer, OwnAnswers, kernel_with_room, code_input}
 
 -- a kernel that does not stand in the input
 same_kernel : (s : Subject) (input other text : List ℕ) → is_in_input s ≡ false → kernel_text s input ≡ Some text → kernel_text s other ≡ Some text
@@ -26,11 +26,11 @@ pub admits_any_input : AdmitsAnyInput
 admits_any_input asked input other idle (kernel_with_room text is h) = kernel_with_room text (same_kernel (subject asked) input other text idle is) h
 admits_any_input asked input other idle (code_input code is h) = no_idle_code (subject asked) idle is
 
--- the last answers of a command that reads no input
-same_last : (asked : Command) (input other : List ℕ) (file : Option (Option (List ℕ))) (status : Status) (printed : List ℕ) (table : Option (List ℕ))
-    → reads_input (Some asked) ≡ false → LastAnswers asked input file status printed table → LastAnswers asked other file status printed table
-same_last (Trial asked) input other file status printed table idle k = k
-same_last asked input other file status printed table idle k = absurd (cc)
+-- the own answers of a command that reads no input
+same_own : (asked : Command) (input other : List ℕ) (file : ToldFile) (status : Status) (printed : List ℕ) (table : Option (List ℕ))
+    → reads_input (Some asked) ≡ false → OwnAnswers asked input file status printed table → OwnAnswers asked other file status printed table
+same_own (Trial asked) input other file status printed table idle k = k
+same_own asked input other file status printed table idle k = absurd (cc)
 
 pub answers_any_input : AnswersAnyInput
 answers_any_input command input file status printed table (usage is k) other idle = usage is k
@@ -39,11 +39,11 @@ answers_any_input command input file status printed table (faulty_kernel asked t
 answers_any_input command input file status printed table (no_code asked is e k) other idle = no_idle_code (subject asked) (sym (ap reads_input is) ∙ idle) e
 answers_any_input command input file status printed table (too_few_slots asked text slots is e has k) other idle =
     too_few_slots asked text slots is (same_kernel (subject asked) input other text (sym (ap reads_input is) ∙ idle) e) has k
-answers_any_input command input file status printed table (last_answer asked is k) other idle =
-    last_answer asked is (same_last asked input other file status printed table (sym (ap reads_input is) ∙ idle) k)
+answers_any_input command input file status printed table (own_answer asked is k) other idle =
+    own_answer asked is (same_own asked input other file status printed table (sym (ap reads_input is) ∙ idle) k)
 
 -- what answers the input that is told answers the text that it is known to be, where it is read, and else any text
-pub answers_text : (command : Option Command) (known : Option (List ℕ)) (told text : List ℕ) (file : Option (Option (List ℕ))) (status : Status) (printed : List ℕ) (table : Option (List ℕ))
+pub answers_text : (command : Option Command) (known : Option (List ℕ)) (told text : List ℕ) (file : ToldFile) (status : Status) (printed : List ℕ) (table : Option (List ℕ))
     → Tells known told → (reads_input command ≡ true → known ≡ Some text) → Answers command told file status printed table → Answers command text file status printed table
 answers_text command known told text file status printed table tells is h = by_use (reads_input command) refl
   where

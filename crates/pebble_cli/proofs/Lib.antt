@@ -13,9 +13,8 @@ pub mod ExecKept
 pub mod ExecLaws
 pub mod GraphKept
 pub mod IdleInputs
-pub mod InputRests
 pub mod KernelAnswers
-pub mod LastAnswers
+pub mod OwnAnswers
 pub mod PartStatuses
 pub mod PartsKept
 pub mod PlanKept

@@ -1,4 +1,4 @@
--- The last answers of `plan`: one to each accepted kernel with enough slots, by the plan that the search finds and its table.
+-- The own answers of `plan`: one to each accepted kernel with enough slots, by the plan that the search finds and its table.
 use Rattle.std.proofs.Common.{◌≡◌, ℕ, ◌<◌, Bool, true, false, List, Option, None, Some, refl, ap, ◌∙◌, subst, arith}
 use Rattle.comp_graph.specs.Dags.{degree}
 use Rattle.comp_graph.specs.Graphs.{GraphParts, dag_of}
@@ -15,17 +15,18 @@ use Rattle.pebble_cli.specs.Answers.{IsAdmitted, kernel_with_room, code_input}
 use Rattle.command_answers.specs.PlanAnswers.{IsPlanned, plan_asked, rows_asked, plan_text, verdict_status}
 use Rattle.pebble_cli.specs.PlanLaws.{IsBoundAsked}
 use Rattle.command_answers.specs.PlayedGames.{game_asked, played_for}
-use Rattle.command_answers.specs.Status.{is_last}
+use Rattle.command_answers.specs.Status.{is_own}
+use Rattle.desk_io.specs.Known.{ToldFile}
 use Rattle.command_words.specs.Words.{IsInLimits}
 use Rattle.command_answers.proofs.Accepting.{accepted_once, accepted_graph}
 use Rattle.command_answers.proofs.FoundPlans.{printed_with, found_answers}
 use Rattle.command_answers.proofs.OnePlans.{one_plan}
-use Rattle.pebble_cli.proofs.LastAnswers.{IsKept, HasLast, AreKept}
+use Rattle.pebble_cli.proofs.OwnAnswers.{IsKept, HasOwn, AreKept}
 use Rattle.command_answers.proofs.SomePlans.{table_asked, is_searched, is_spelled}
 
-pub verdict_last : (optimal : Bool) → is_last (verdict_status optimal) ≡ true
-verdict_last true = refl
-verdict_last false = refl
+pub verdict_is_own : (optimal : Bool) → is_own (verdict_status optimal) ≡ true
+verdict_is_own true = refl
+verdict_is_own false = refl
 
 -- more slots than the degree
 pub room_for : (asked : Planning) (graph : GraphParts) → degree (dag_of graph) < asked.slots → (count : ℕ) → Some asked.slots ≡ Some count → degree (dag_of graph) < count
@@ -37,11 +38,11 @@ pub admits : (asked : Planning) (input : List ℕ) (kernel : KernelParts) (graph
 admits asked input kernel graph accepted room =
     kernel_with_room input refl (record { kernel = kernel; graph = graph; accepted = accepted; room = room_for asked graph room })
 
-kept : (asked : Planning) (input : List ℕ) (file : Option (Option (List ℕ))) (status : Status) (printed : List ℕ) (table : Option (List ℕ))
+kept : (asked : Planning) (input : List ℕ) (file : ToldFile) (status : Status) (printed : List ℕ) (table : Option (List ℕ))
     → IsPlanned asked input status printed table → IsKept (Plan asked) input file status printed table
 kept asked input file status printed table h = record {
   admitted = admits asked input h.kernel h.graph h.accepted h.room;
-  last = ap is_last h.ends ∙ verdict_last h.plan.numbers.optimal;
+  last = ap is_own h.ends ∙ verdict_is_own h.plan.numbers.optimal;
   untold = λ e. absurd (cc);
   held = λ e. absurd (cc);
 }
@@ -64,7 +65,7 @@ one_bound asked graph a b = support_is_one (played_for asked graph) (rows_asked 
 
 -- a plan answers an accepted kernel with enough slots
 answered : (asked : Planning) (text : List ℕ) (kernel : KernelParts) (graph : GraphParts) (game : IsGame (game_asked asked graph)) → IsInLimits (Plan asked) → IsAccepted text kernel graph
-    → HasLast (Plan asked) text None
+    → HasOwn (Plan asked) text None
 answered asked text kernel graph game limits accepted =
     let table = table_asked asked graph game in
     let plan = printed_with asked graph table in
@@ -89,7 +90,7 @@ answered asked text kernel graph game limits accepted =
       };
     }
 
-some : (asked : Planning) (input : List ℕ) (file : Option (Option (List ℕ))) → IsInLimits (Plan asked) → IsAdmitted (Plan asked) input → HasLast (Plan asked) input file
+some : (asked : Planning) (input : List ℕ) (file : ToldFile) → IsInLimits (Plan asked) → IsAdmitted (Plan asked) input → HasOwn (Plan asked) input file
 some asked input file limits (kernel_with_room text e h) =
     let same : text ≡ input = cc in
     let game : IsGame (game_asked asked h.graph) = record {

@@ -97,12 +97,12 @@ plan_has_text : (asked : Planning) (text : List ℕ) (status : Status) (printed 
 plan_has_text asked text status printed table h =
     let well : IsWellFormed h.kernel = kernels_are_well_formed text h.kernel h.accepted.reads in
     let nodes = constants_are_small h.kernel h.graph well h.accepted.evaluated in
-    let played = h.answer.played in
+    let played = h.answer.right.played in
     record {
-      bounds = h.answer.code_bounds;
-      inputs = subst (All IsLabel) (sym h.answer.code_inputs) (labels_are_labels h.kernel kinds.Input well);
-      outputs = of_mapped IsLabel (λ (o : OutWord). o.label) h.plan.code.outputs (subst (All IsLabel) (sym h.answer.code_outputs) (labels_are_labels h.kernel kinds.Output well));
-      constants = code_constants h.plan.code h.answer.code_bounds
+      bounds = h.answer.right.bounds;
+      inputs = subst (All IsLabel) (sym h.answer.right.inputs) (labels_are_labels h.kernel kinds.Input well);
+      outputs = of_mapped IsLabel (λ (o : OutWord). o.label) h.plan.code.outputs (subst (All IsLabel) (sym h.answer.right.outputs) (labels_are_labels h.kernel kinds.Output well));
+      constants = code_constants h.plan.code h.answer.right.bounds
           (plays_small h.graph nodes (first_places h.graph) played.plays.last played.moves h.plan.code.instructions played.plays.plays);
     }
 
@@ -213,8 +213,8 @@ plan_facts_small asked text status printed table limits h =
     let few = (first_plan_valid (game_asked asked h.graph) game).fits in
     let first = h.answer.shown.first in
     let no_more = h.answer.shown.no_more in
-    let low = h.answer.shown.lowest h.answer.played.moves h.answer.played.complete in
-    let costs = h.answer.played.costs in
+    let low = h.answer.shown.lowest h.answer.right.played.moves h.answer.right.played.complete in
+    let costs = h.answer.right.played.costs in
     let expanded = h.answer.shown.few in
     let budget = limits.2 in
     record {

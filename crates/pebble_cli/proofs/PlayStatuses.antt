@@ -8,6 +8,7 @@ use Rattle.command_answers.specs.declared.status.Status.{Status}
 use Rattle.command_answers.specs.declared.status.Status.TheVariants.{Done, Play}
 use Rattle.command_answers.specs.Accepted.{IsAccepted}
 use Rattle.command_answers.specs.PlayAnswers.{IsJudged, Judges, Tidies, complete_text}
+use Rattle.desk_io.specs.Known.{ToldFile}
 use Rattle.pebble_cli.specs.Answers.{Answers}
 use Rattle.pebble_cli.specs.PlayLaws.{JudgeStatuses, JudgedWherePlayed, JudgedWhereNot, TidyStatuses, TidiedWherePlayed, TidiedWhereNot, PlayedOrNot}
 use Rattle.command_answers.proofs.PlayedOnce.{judged_once, tidied_once, no_play_some, play_or_none}
@@ -21,15 +22,15 @@ judge_statuses slots input file status printed table h = refused_or (Judge slots
   | inr none ↦ inr (none.ends, none)
 ])
 
-judged : (slots : ℕ) (input : List ℕ) (file : Option (Option (List ℕ))) (status : Status) (printed : List ℕ) (table : Option (List ℕ)) (kernel : KernelParts) (graph : GraphParts)
+judged : (slots : ℕ) (input : List ℕ) (file : ToldFile) (status : Status) (printed : List ℕ) (table : Option (List ℕ)) (kernel : KernelParts) (graph : GraphParts)
     → Answers (Some (Judge slots)) input file status printed table → IsAccepted input kernel graph → degree (dag_of graph) < slots → Judges slots input file status printed table
 judged slots input file status printed table kernel graph h accepted room =
     own_answer (Judge slots) slots input file status printed table kernel graph refl refl h accepted room
 
 pub judged_where_played : JudgedWherePlayed
-judged_where_played slots input bytes status printed table kernel graph h accepted room moves count holds =
+judged_where_played slots input bytes status printed table kernel graph h accepted room moves cost holds =
     let held = Some (Some bytes) in
-    let is : IsJudged slots input held Done (complete_text count) None = record {
+    let is : IsJudged slots input held Done (complete_text cost) None = record {
       kernel = kernel;
       graph = graph;
       accepted = accepted;
@@ -37,13 +38,13 @@ judged_where_played slots input bytes status printed table kernel graph h accept
       bytes = bytes;
       held = refl;
       moves = moves;
-      count = count;
+      cost = cost;
       holds = holds;
       ends = refl;
       line = refl;
       none = refl;
     } in
-    let one = judged_once slots input held (Some bytes) refl status Done printed (complete_text count) table None
+    let one = judged_once slots input held (Some bytes) refl status Done printed (complete_text cost) table None
     (judged slots input held status printed table kernel graph h accepted room) (inl is) in
     (one.0, one.1)
 
@@ -62,21 +63,21 @@ tidy_statuses slots input file status printed table h = refused_or (Tidy slots) 
   | inr none ↦ inr (none.ends, none)
 ])
 
-tidied : (slots : ℕ) (input : List ℕ) (file : Option (Option (List ℕ))) (status : Status) (printed : List ℕ) (table : Option (List ℕ)) (kernel : KernelParts) (graph : GraphParts)
+tidied : (slots : ℕ) (input : List ℕ) (file : ToldFile) (status : Status) (printed : List ℕ) (table : Option (List ℕ)) (kernel : KernelParts) (graph : GraphParts)
     → Answers (Some (Tidy slots)) input file status printed table → IsAccepted input kernel graph → degree (dag_of graph) < slots → Tidies slots input file status printed table
 tidied slots input file status printed table kernel graph h accepted room =
     own_answer (Tidy slots) slots input file status printed table kernel graph refl refl h accepted room
 
 -- a file that holds a complete pebbling is tidied, for it is judged so
 pub tidied_where_played : TidiedWherePlayed
-tidied_where_played slots input bytes status printed table kernel graph h accepted room moves count holds =
+tidied_where_played slots input bytes status printed table kernel graph h accepted room moves cost holds =
     by_kind (tidied slots input (Some (Some bytes)) status printed table kernel graph h accepted room)
   where
     by_kind : Tidies slots input (Some (Some bytes)) status printed table → status ≡ Done
     by_kind (inl k) = k.ends
     by_kind (inr k) =
         let held = Some (Some bytes) in
-        let is : IsJudged slots input held Done (complete_text count) None = record {
+        let is : IsJudged slots input held Done (complete_text cost) None = record {
           kernel = kernel;
           graph = graph;
           accepted = accepted;
@@ -84,13 +85,13 @@ tidied_where_played slots input bytes status printed table kernel graph h accept
           bytes = bytes;
           held = refl;
           moves = moves;
-          count = count;
+          cost = cost;
           holds = holds;
           ends = refl;
           line = refl;
           none = refl;
         } in
-        sym (judged_once slots input held (Some bytes) refl Done status (complete_text count) printed None table (inl is) (inr k)).0
+        sym (judged_once slots input held (Some bytes) refl Done status (complete_text cost) printed None table (inl is) (inr k)).0
 
 pub tidied_where_not : TidiedWhereNot
 tidied_where_not slots input bytes status printed table kernel graph h accepted room line none =

@@ -9,14 +9,15 @@ use Rattle.command_words.specs.Commands.{subject, slots_of}
 use Rattle.command_answers.specs.declared.status.Status.{Status}
 use Rattle.command_answers.specs.Accepted.{IsAccepted}
 use Rattle.command_answers.specs.Refusals.{IsFaulty, IsTooSmall}
+use Rattle.desk_io.specs.Known.{ToldFile}
 use Rattle.pebble_cli.specs.AnswerLaws.{RefusedOr}
-use Rattle.pebble_cli.specs.Answers.{Answers, LastAnswers}
+use Rattle.pebble_cli.specs.Answers.{Answers, OwnAnswers}
 use Rattle.pebble_cli.proofs.Admitting.{admits, text_is_input}
-use Rattle.pebble_cli.proofs.AnswerLaws.{Kinds, faulty, not_code, small, last, kind_of, to_last}
+use Rattle.pebble_cli.proofs.AnswerLaws.{Kinds, faulty, not_code, small, last, kind_of, to_own}
 
 -- each answer is a refusal or one of its own
-pub refused_or : {Own : Type 0} (asked : Command) (slots : ℕ) (input : List ℕ) (file : Option (Option (List ℕ))) (status : Status) (printed : List ℕ) (table : Option (List ℕ))
-    → subject asked ≡ InputKernel → slots_of asked ≡ Some slots → Answers (Some asked) input file status printed table → (LastAnswers asked input file status printed table → Own)
+pub refused_or : {Own : Type 0} (asked : Command) (slots : ℕ) (input : List ℕ) (file : ToldFile) (status : Status) (printed : List ℕ) (table : Option (List ℕ))
+    → subject asked ≡ InputKernel → slots_of asked ≡ Some slots → Answers (Some asked) input file status printed table → (OwnAnswers asked input file status printed table → Own)
     → RefusedOr input slots status printed table Own
 refused_or {Own} asked slots input file status printed table works has h own = by_kind (kind_of asked refl h)
   where
@@ -29,8 +30,8 @@ refused_or {Own} asked slots input file status printed table works has h own = b
     by_kind (last k) = inr (inr (own k))
 
 -- to an accepted kernel with enough slots it is one of its own
-pub own_answer : (asked : Command) (slots : ℕ) (input : List ℕ) (file : Option (Option (List ℕ))) (status : Status) (printed : List ℕ) (table : Option (List ℕ)) (kernel : KernelParts) (graph : GraphParts)
+pub own_answer : (asked : Command) (slots : ℕ) (input : List ℕ) (file : ToldFile) (status : Status) (printed : List ℕ) (table : Option (List ℕ)) (kernel : KernelParts) (graph : GraphParts)
     → subject asked ≡ InputKernel → slots_of asked ≡ Some slots → Answers (Some asked) input file status printed table → IsAccepted input kernel graph → degree (dag_of graph) < slots
-    → LastAnswers asked input file status printed table
+    → OwnAnswers asked input file status printed table
 own_answer asked slots input file status printed table kernel graph works has h accepted room =
-    to_last asked input file status printed table (admits asked slots input kernel graph works has accepted room) (kind_of asked refl h)
+    to_own asked input file status printed table (admits asked slots input kernel graph works has accepted room) (kind_of asked refl h)

@@ -3,7 +3,7 @@ use Rattle.std.proofs.Common.{◌≡◌, ◌⊎◌, ◌≤◌, ◌∙◌, ℕ, t
 use Rattle.desk_io.specs.declared.desk.Kind.{Kind}
 use Rattle.desk_io.specs.declared.desk.Kind.TheVariants.{TakeInput, TakeFile}
 use Rattle.desk_io.specs.Counts.{Rose}
-use Rattle.desk_io.specs.Known.{Tells}
+use Rattle.desk_io.specs.Known.{ToldFile, Tells}
 use Rattle.kernel_gen.specs.Trials.{trial_kernel}
 use Rattle.scratch_machine.specs.Codes.{CodeParts}
 use Rattle.command_answers.specs.declared.answer.Answer.{Answer}
@@ -12,7 +12,7 @@ use Rattle.command_answers.specs.declared.answer.EarlyEnd.TheVariants.{Refused, 
 use Rattle.command_words.specs.declared.commands.Command.{Command}
 use Rattle.command_words.specs.declared.commands.Command.TheVariants.{Plan, Check, Run, Exec, Graph, Trial, Cover, CoverCheck, Parts, Judge, Tidy, Cache}
 use Rattle.command_words.specs.declared.commands.Subject.TheVariants.{InputKernel, InputCode, TrialKernel}
-use Rattle.pebble_cli.specs.Answers.{Answers, usage, faulty_kernel, no_code, last_answer, IsAdmitted, code_input}
+use Rattle.pebble_cli.specs.Answers.{Answers, usage, faulty_kernel, no_code, own_answer, IsAdmitted, code_input}
 use Rattle.command_answers.specs.CodeInputs.{IsCodeInput, IsNoCode}
 use Rattle.command_words.specs.Commands.{subject, reads_file}
 use Rattle.command_answers.specs.Subjects.{kernel_text}
@@ -30,7 +30,7 @@ pub input_is_text : (command : Command) (input : List ℕ) → subject command �
 input_is_text command input is = ap (λ s. kernel_text s input) is
 
 -- an input that is too long
-pub long_answers : {A : Type 0} (r : Result Answer EarlyEnd) (text : Result A EarlyEnd) (end : EarlyEnd) (command : Command) (known : Option (List ℕ)) (file : Option (Option (List ℕ)))
+pub long_answers : {A : Type 0} (r : Result Answer EarlyEnd) (text : Result A EarlyEnd) (end : EarlyEnd) (command : Command) (known : Option (List ℕ)) (file : ToldFile)
     → r ≡ Err end → text ≡ Err end → IfRefused text (λ a. (t : List ℕ) × Tells known t × Meets (IsFaulty t) a) → subject command ≡ InputKernel
     → IfAnswer r (AnswersInput (Some command) known file)
 long_answers {A} r text (Refused a) command known file is was k e =
@@ -41,7 +41,7 @@ long_answers {A} r text ReadFault command known file is was k e = subst (λ z. I
 long_answers {A} r text NoMemory command known file is was k e = subst (λ z. IfAnswer z (AnswersInput (Some command) known file)) (sym is) tt
 
 -- what answers the text that was read answers the input
-pub told_answers : (r : Result Answer EarlyEnd) (command : Command) (known : Option (List ℕ)) (text : List ℕ) (file held : Option (Option (List ℕ)))
+pub told_answers : (r : Result Answer EarlyEnd) (command : Command) (known : Option (List ℕ)) (text : List ℕ) (file held : ToldFile)
     → Tells known text → held ≡ file → subject command ≡ InputKernel
     → ((input : List ℕ) → kernel_text (subject command) input ≡ Some text → IfAnswer r (Meets (Answers (Some command) input held)))
     → IfAnswer r (AnswersInput (Some command) known file)
@@ -76,7 +76,7 @@ only_exec (Tidy slots) e = absurd (cc)
 only_exec (Cache asked) e = absurd (cc)
 
 -- a code that is too long
-pub long_code_answers : {A : Type 0} (r : Result Answer EarlyEnd) (text : Result A EarlyEnd) (end : EarlyEnd) (command : Command) (known : Option (List ℕ)) (file : Option (Option (List ℕ)))
+pub long_code_answers : {A : Type 0} (r : Result Answer EarlyEnd) (text : Result A EarlyEnd) (end : EarlyEnd) (command : Command) (known : Option (List ℕ)) (file : ToldFile)
     → r ≡ Err end → text ≡ Err end → IfRefused text (λ a. (t : List ℕ) × Tells known t × Meets (IsNoCode t) a) → subject command ≡ InputCode
     → IfAnswer r (AnswersInput (Some command) known file)
 long_code_answers {A} r text (Refused a) command known file is was k e =
@@ -87,14 +87,14 @@ long_code_answers {A} r text ReadFault command known file is was k e = subst (λ
 long_code_answers {A} r text NoMemory command known file is was k e = subst (λ z. IfAnswer z (AnswersInput (Some command) known file)) (sym is) tt
 
 -- what answers the text that was read answers the input
-pub code_answers : (r : Result Answer EarlyEnd) (command : Command) (known : Option (List ℕ)) (text : List ℕ) (file held : Option (Option (List ℕ)))
+pub code_answers : (r : Result Answer EarlyEnd) (command : Command) (known : Option (List ℕ)) (text : List ℕ) (file held : ToldFile)
     → Tells known text → held ≡ file → subject command ≡ InputCode → IfAnswer r (λ a. Meets (IsNoCode text) a ⊎ Meets (Executes text held) a)
     → IfAnswer r (AnswersInput (Some command) known file)
 code_answers r command known text file held told same e h =
     more_of r (λ a. Meets (IsNoCode text) a ⊎ Meets (Executes text held) a) (AnswersInput (Some command) known file) each h
   where
     ran : (a : Answer) → Meets (Executes text held) a → Meets (Answers (Some Exec) text file) a
-    ran a k = last_answer Exec refl (subst (λ f. Meets (Executes text f) a) same k)
+    ran a k = own_answer Exec refl (subst (λ f. Meets (Executes text f) a) same k)
 
     each : (a : Answer) → Meets (IsNoCode text) a ⊎ Meets (Executes text held) a → AnswersInput (Some command) known file a
     each a (inl none) = (text, told, no_code command refl e none)
@@ -144,7 +144,7 @@ trial_reads_nothing (Cache asked) statements e = refl
 trial_reads_nothing (Trial asked) statements e = refl
 
 -- what answers the trial kernel answers any input
-pub trial_answers : (r : Result Answer EarlyEnd) (command : Command) (statements : ℕ) (known : Option (List ℕ)) (text : List ℕ) (file : Option (Option (List ℕ)))
+pub trial_answers : (r : Result Answer EarlyEnd) (command : Command) (statements : ℕ) (known : Option (List ℕ)) (text : List ℕ) (file : ToldFile)
     → subject command ≡ TrialKernel statements → text ≡ trial_kernel statements
     → ((input : List ℕ) → kernel_text (subject command) input ≡ Some text → IfAnswer r (Meets (Answers (Some command) input file)))
     → IfAnswer r (AnswersInput (Some command) known file)
@@ -162,5 +162,5 @@ trial_file_fault command statements text before now e is h =
     absurd (let both : true ≡ false = sym cause.0 ∙ none in cc)
 
 -- words that spell no command
-pub usage_answers : (command : Option Command) (known : Option (List ℕ)) (file : Option (Option (List ℕ))) (a : Answer) → command ≡ None → Meets IsUsage a → AnswersInput command known file a
+pub usage_answers : (command : Option Command) (known : Option (List ℕ)) (file : ToldFile) (a : Answer) → command ≡ None → Meets IsUsage a → AnswersInput command known file a
 usage_answers command known file a is k = let told = told_text known in (told.0, told.1, usage is k)

@@ -1,4 +1,4 @@
--- The last answers of `trial`: one to each trial kernel with enough slots, by the plan that the search finds and its table.
+-- The own answers of `trial`: one to each trial kernel with enough slots, by the plan that the search finds and its table.
 use Rattle.std.proofs.Common.{◌≡◌, ℕ, ◌<◌, List, Option, Some, refl, ap, subst, arith}
 use Rattle.comp_graph.specs.Dags.{degree}
 use Rattle.comp_graph.specs.Graphs.{GraphParts, dag_of}
@@ -15,12 +15,13 @@ use Rattle.command_answers.specs.Accepted.{IsAccepted}
 use Rattle.pebble_cli.specs.Answers.{IsAdmitted, kernel_with_room, code_input}
 use Rattle.command_answers.specs.PlanAnswers.{facts_of}
 use Rattle.command_answers.specs.PlayedGames.{game_asked}
-use Rattle.command_answers.specs.Status.{is_last}
+use Rattle.command_answers.specs.Status.{is_own}
+use Rattle.desk_io.specs.Known.{ToldFile}
 use Rattle.command_answers.specs.TrialAnswers.{IsTried, planning_of}
 use Rattle.command_words.specs.Words.{IsInLimits}
 use Rattle.command_answers.proofs.Accepting.{accepted_graph}
 use Rattle.command_answers.proofs.FoundPlans.{found_shown, numbers_with, plan_is_possible}
-use Rattle.pebble_cli.proofs.LastAnswers.{IsKept, HasLast, AreKept}
+use Rattle.pebble_cli.proofs.OwnAnswers.{IsKept, HasOwn, AreKept}
 use Rattle.pebble_cli.proofs.PlanKept.{room_for}
 use Rattle.command_answers.proofs.SomePlans.{table_asked, is_searched, is_spelled}
 use Rattle.command_answers.proofs.FoundTrials.{trial_vertices}
@@ -32,18 +33,18 @@ pub admits : (asked : TrialPlanning) (input : List ℕ) (kernel : KernelParts) (
 admits asked input kernel graph accepted room =
     kernel_with_room (trial_kernel asked.statements) refl (record { kernel = kernel; graph = graph; accepted = accepted; room = room_for (planning_of asked) graph room })
 
-kept : (asked : TrialPlanning) (input : List ℕ) (file : Option (Option (List ℕ))) (status : Status) (printed : List ℕ) (table : Option (List ℕ))
+kept : (asked : TrialPlanning) (input : List ℕ) (file : ToldFile) (status : Status) (printed : List ℕ) (table : Option (List ℕ))
     → IsTried asked status printed table → IsKept (Trial asked) input file status printed table
 kept asked input file status printed table h = record {
   admitted = admits asked input h.kernel h.graph h.accepted h.room;
-  last = ap is_last h.ends;
+  last = ap is_own h.ends;
   untold = λ e. absurd (cc);
   held = λ e. absurd (cc);
 }
 
 -- a plan answers an accepted kernel with enough slots
-answered : (asked : TrialPlanning) (input : List ℕ) (file : Option (Option (List ℕ))) (kernel : KernelParts) (graph : GraphParts) (game : IsGame (game_asked (planning_of asked) graph)) → IsInLimits (Trial asked)
-    → IsAccepted (trial_kernel asked.statements) kernel graph → HasLast (Trial asked) input file
+answered : (asked : TrialPlanning) (input : List ℕ) (file : ToldFile) (kernel : KernelParts) (graph : GraphParts) (game : IsGame (game_asked (planning_of asked) graph)) → IsInLimits (Trial asked)
+    → IsAccepted (trial_kernel asked.statements) kernel graph → HasOwn (Trial asked) input file
 answered asked input file kernel graph game limits accepted =
     let table = table_asked (planning_of asked) graph game in
     let numbers = numbers_with (planning_of asked) graph table in
@@ -69,7 +70,7 @@ answered asked input file kernel graph game limits accepted =
       };
     }
 
-some : (asked : TrialPlanning) (input : List ℕ) (file : Option (Option (List ℕ))) → IsInLimits (Trial asked) → IsAdmitted (Trial asked) input → HasLast (Trial asked) input file
+some : (asked : TrialPlanning) (input : List ℕ) (file : ToldFile) → IsInLimits (Trial asked) → IsAdmitted (Trial asked) input → HasOwn (Trial asked) input file
 some asked input file limits (kernel_with_room text e h) =
     let same : text ≡ trial_kernel asked.statements = cc in
     let game : IsGame (game_asked (planning_of asked) h.graph) = record {

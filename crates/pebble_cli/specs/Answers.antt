@@ -1,9 +1,9 @@
 -- What the program answers to its words, its input and its file: the status, the printed text, and the table that is written, if one is.
--- Each command has its own last answers, in a file of its own; before them stand the refusals, which go by its subject and its slots.
+-- Each command has its own answers, in a file of its own; before them stand the refusals, which go by its subject and its slots.
 use Rattle.std.specs.Prelude.{◌≡◌, ℕ, ◌<◌, List, Option, None, Some}
 use Rattle.comp_graph.specs.Dags.{degree}
 use Rattle.comp_graph.specs.Graphs.{GraphParts, dag_of}
-use Rattle.desk_io.specs.Known.{Tells}
+use Rattle.desk_io.specs.Known.{ToldFile, Tells}
 use Rattle.kernel_ast.specs.KernelParts.{KernelParts}
 use Rattle.command_words.specs.declared.commands.Command.{Command}
 use Rattle.command_words.specs.declared.commands.Command.TheVariants.{Plan, Check, Run, Exec, Graph, Trial, Cover, CoverCheck, Parts, Judge, Tidy, Cache}
@@ -27,31 +27,31 @@ use Rattle.command_answers.specs.RunAnswers.{Runs}
 use Rattle.command_answers.specs.TrialAnswers.{IsTried}
 use Rattle.scratch_machine.specs.Codes.{CodeParts}
 
--- the last answers of each command to an input and a file, as far as the desk tells the file
-abbrev pub LastAnswers : Command → List ℕ → Option (Option (List ℕ)) → Status → List ℕ → Option (List ℕ) → Type 0
-LastAnswers (Plan asked) input file = IsPlanned asked input
-LastAnswers (Check asked) input file = Checks asked input file
-LastAnswers Run input file = Runs input file
-LastAnswers Exec input file = Executes input file
-LastAnswers Graph input file = IsDrawn input
-LastAnswers (Trial asked) input file = IsTried asked
-LastAnswers (Cover asked) input file = IsCovered asked input
-LastAnswers (CoverCheck slots) input file = CoverChecks slots input file
-LastAnswers (Parts asked) input file = IsParted asked input
-LastAnswers (Judge slots) input file = Judges slots input file
-LastAnswers (Tidy slots) input file = Tidies slots input file
-LastAnswers (Cache asked) input file = IsCached asked input
+-- the own answers of each command to an input and a file, as far as the desk tells the file
+abbrev pub OwnAnswers : Command → List ℕ → ToldFile → Status → List ℕ → Option (List ℕ) → Type 0
+OwnAnswers (Plan asked) input file = IsPlanned asked input
+OwnAnswers (Check asked) input file = Checks asked input file
+OwnAnswers Run input file = Runs input file
+OwnAnswers Exec input file = Executes input file
+OwnAnswers Graph input file = IsDrawn input
+OwnAnswers (Trial asked) input file = IsTried asked
+OwnAnswers (Cover asked) input file = IsCovered asked input
+OwnAnswers (CoverCheck slots) input file = CoverChecks slots input file
+OwnAnswers (Parts asked) input file = IsParted asked input
+OwnAnswers (Judge slots) input file = Judges slots input file
+OwnAnswers (Tidy slots) input file = Tidies slots input file
+OwnAnswers (Cache asked) input file = IsCached asked input
 
 -- The status, the text and the table that answer words with this input and this file, as far as the desk tells the file: words that
 -- spell no command, a kernel with a fault, an input that is no code, too few slots, and else an answer of the command's own.
-pub data Answers (command : Option Command) (input : List ℕ) (file : Option (Option (List ℕ))) (status : Status) (printed : List ℕ) (table : Option (List ℕ)) : Type 0 where
+pub data Answers (command : Option Command) (input : List ℕ) (file : ToldFile) (status : Status) (printed : List ℕ) (table : Option (List ℕ)) : Type 0 where
   usage : command ≡ None → IsUsage status printed table → Answers command input file status printed table
   faulty_kernel : (asked : Command) (text : List ℕ) → command ≡ Some asked → kernel_text (subject asked) input ≡ Some text
       → IsFaulty text status printed table → Answers command input file status printed table
   no_code : (asked : Command) → command ≡ Some asked → subject asked ≡ InputCode → IsNoCode input status printed table → Answers command input file status printed table
   too_few_slots : (asked : Command) (text : List ℕ) (slots : ℕ) → command ≡ Some asked → kernel_text (subject asked) input ≡ Some text
       → slots_of asked ≡ Some slots → IsTooSmall slots text status printed table → Answers command input file status printed table
-  last_answer : (asked : Command) → command ≡ Some asked → LastAnswers asked input file status printed table
+  own_answer : (asked : Command) → command ≡ Some asked → OwnAnswers asked input file status printed table
       → Answers command input file status printed table
 
 -- the text is accepted, and where there are slots they are more than the degree of its graph

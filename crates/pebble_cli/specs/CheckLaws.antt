@@ -16,11 +16,12 @@ use Rattle.command_answers.specs.CheckAnswers.{IsCertificate, IsCertified, IsRef
 use Rattle.command_answers.specs.PlanAnswers.{IsPlanned}
 use Rattle.command_answers.specs.PlayedGames.{played_on}
 use Rattle.command_answers.specs.Refusals.{IsFaulty, IsTooSmall}
+use Rattle.desk_io.specs.Known.{ToldFile}
 use Rattle.command_words.specs.Words.{IsInLimits}
 
 -- The answers of `check`: a kernel's fault, too few slots, the bound that the file proves, or why it proves none.
 abbrev pub CheckStatuses : Type 0
-CheckStatuses = (asked : Checking) (input : List ℕ) (file : Option (Option (List ℕ))) (status : Status) (printed : List ℕ) (table : Option (List ℕ))
+CheckStatuses = (asked : Checking) (input : List ℕ) (file : ToldFile) (status : Status) (printed : List ℕ) (table : Option (List ℕ))
     → Answers (Some (Check asked)) input file status printed table
     → ((status ≡ Kernel) × IsFaulty input status printed table) ⊎ (((status ≡ TooSmall) × IsTooSmall asked.slots input status printed table)
     ⊎ (((status ≡ Done) × IsCertified asked input file status printed table) ⊎ ((status ≡ Refused) × IsRefusedFile asked input file status printed table)))

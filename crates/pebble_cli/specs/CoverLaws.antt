@@ -15,6 +15,7 @@ use Rattle.command_answers.specs.CheckAnswers.{accepted_text, refused_text}
 use Rattle.command_answers.specs.CoverAnswers.{IsCovered}
 use Rattle.command_answers.specs.CoverCheckAnswers.{IsCoverCertificate, IsCoverCertified, IsCoverRefused, IsCoverRefusedFile}
 use Rattle.command_answers.specs.PlayedGames.{played_on}
+use Rattle.desk_io.specs.Known.{ToldFile}
 use Rattle.pebble_cli.specs.AnswerLaws.{RefusedOr}
 use Rattle.pebble_cli.specs.Answers.{Answers}
 
@@ -22,13 +23,13 @@ use Rattle.pebble_cli.specs.Answers.{Answers}
 
 -- The answers of `cover`: a kernel's fault, too few slots, or a plan with its verdict and a covered table.
 abbrev pub CoverStatuses : Type 0
-CoverStatuses = (asked : Covering) (input : List ℕ) (file : Option (Option (List ℕ))) (status : Status) (printed : List ℕ) (table : Option (List ℕ))
+CoverStatuses = (asked : Covering) (input : List ℕ) (file : ToldFile) (status : Status) (printed : List ℕ) (table : Option (List ℕ))
     → Answers (Some (Cover asked)) input file status printed table
     → RefusedOr input asked.slots status printed table (((status ≡ Optimal) ⊎ (status ≡ Open)) × IsCovered asked input status printed table)
 
 -- Something holds of each answer of `cover` to an accepted kernel with more slots than the degree of its graph.
 abbrev pub OfCovers : (Covering → GraphParts → List ℕ → Status → List ℕ → Option (List ℕ) → Type 0) → Type 0
-OfCovers P = (asked : Covering) (input : List ℕ) (file : Option (Option (List ℕ))) (status : Status) (printed : List ℕ) (table : Option (List ℕ))
+OfCovers P = (asked : Covering) (input : List ℕ) (file : ToldFile) (status : Status) (printed : List ℕ) (table : Option (List ℕ))
     (kernel : KernelParts) (graph : GraphParts) → Answers (Some (Cover asked)) input file status printed table → IsAccepted input kernel graph
     → degree (dag_of graph) < asked.slots → P asked graph input status printed table
 
@@ -44,7 +45,7 @@ CoversAreOptimalWhereEnough = OfCovers (λ asked graph input status printed tabl
 
 -- The answers of `covercheck`: a kernel's fault, too few slots, the bound that the file proves, or why it proves none.
 abbrev pub CoverCheckStatuses : Type 0
-CoverCheckStatuses = (slots : ℕ) (input : List ℕ) (file : Option (Option (List ℕ))) (status : Status) (printed : List ℕ) (table : Option (List ℕ))
+CoverCheckStatuses = (slots : ℕ) (input : List ℕ) (file : ToldFile) (status : Status) (printed : List ℕ) (table : Option (List ℕ))
     → Answers (Some (CoverCheck slots)) input file status printed table
     → RefusedOr input slots status printed table
     (((status ≡ Done) × IsCoverCertified slots input file status printed table) ⊎ ((status ≡ Refused) × IsCoverRefusedFile slots input file status printed table))

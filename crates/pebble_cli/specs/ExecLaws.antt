@@ -13,14 +13,16 @@ use Rattle.command_answers.specs.Accepted.{IsAccepted}
 use Rattle.pebble_cli.specs.Answers.{Answers}
 use Rattle.command_answers.specs.CodeInputs.{IsCodeInput, IsNoCode}
 use Rattle.command_answers.specs.ExecAnswers.{IsRunToEnd, IsEmptyRead, IsWrongInputs, exec_fault_text, place_of, ran_text, transfers_text}
-use Rattle.command_answers.specs.PlanAnswers.{IsPlanned, run_weight}
+use Rattle.command_answers.specs.PlanAnswers.{IsPlanned}
+use Rattle.command_answers.specs.RightCodes.{run_weight}
 use Rattle.command_answers.specs.RunAnswers.{IsValuesFile}
+use Rattle.desk_io.specs.Known.{ToldFile}
 use Rattle.command_answers.specs.ValuesFiles.{HoldsValues, HoldsNone, values_fault_text}
 use Rattle.command_words.specs.Words.{IsInLimits}
 
 -- The answers of `exec`: that the input is no code, the outputs of the run, a read of what is empty, or that the file holds no values.
 abbrev pub ExecStatuses : Type 0
-ExecStatuses = (input : List ℕ) (file : Option (Option (List ℕ))) (status : Status) (printed : List ℕ) (table : Option (List ℕ))
+ExecStatuses = (input : List ℕ) (file : ToldFile) (status : Status) (printed : List ℕ) (table : Option (List ℕ))
     → Answers (Some Exec) input file status printed table
     → ((status ≡ Code) × IsNoCode input status printed table) ⊎ (((status ≡ Done) × IsRunToEnd input file status printed table)
     ⊎ (((status ≡ ExecFault) × IsEmptyRead input file status printed table) ⊎ ((status ≡ Values) × IsWrongInputs input file status printed table)))

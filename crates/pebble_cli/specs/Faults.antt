@@ -1,7 +1,5 @@
--- When a run ends with a read fault and how much of the input it took then, that no take was tried in vain, what takes leave of the input, and when
--- the file tells enough to say the answer.
+-- When a run ends with a read fault and how much of the input it took then, and when the file tells enough to say the answer.
 use Rattle.std.specs.Prelude.{◌≡◌, ℕ, true, List, Option, None, Some}
-use Rattle.std.specs.Io.KnownBytes.{prepend_known}
 use Rattle.desk_io.specs.declared.desk.Kind.{Kind}
 use Rattle.desk_io.specs.declared.desk.Kind.TheVariants.{TakeInput, TakeFile}
 use Rattle.desk_io.specs.Counts.{Rose}
@@ -10,6 +8,7 @@ use Rattle.pebble_cli.specs.Answers.{HasAdmitted}
 use Rattle.command_words.specs.declared.commands.Subject.{Subject}
 use Rattle.command_words.specs.declared.commands.Subject.TheVariants.{InputKernel, InputCode, TrialKernel}
 use Rattle.command_words.specs.Commands.{subject, reads_input, reads_file}
+use Rattle.desk_io.specs.Known.{ToldFile}
 
 -- a take failed that the words ask for: one of the input; or one of the file, which is read only where the command reads it and nothing
 -- refuses the input; no take of the other was tried in vain
@@ -29,15 +28,6 @@ abbrev pub input_limit : Option Command → ℕ
 input_limit None = 0
 input_limit (Some asked) = subject_limit (subject asked)
 
--- the counts of the calls that read stay as they were, so none of them was tried in vain
-pub record SameTakeFaults (before now : Kind → ℕ) : Type 0 where
-  pub input : now TakeInput ≡ before TakeInput
-  pub file : now TakeFile ≡ before TakeFile
-
--- what was taken of the input stood at its front, and the rest is left
-abbrev pub LeavesRest : Option (List ℕ) → Option (List ℕ) → Type 0
-LeavesRest before now = (taken : List ℕ) × (before ≡ prepend_known taken now)
-
 -- the desk tells the file, if the command reads it
-abbrev pub IsFileTold : Option Command → Option (Option (List ℕ)) → Type 0
+abbrev pub IsFileTold : Option Command → ToldFile → Type 0
 IsFileTold command file = reads_file command ≡ true → (held : Option (List ℕ)) × (file ≡ Some held)

@@ -4,7 +4,6 @@ pub mod Answers
 pub mod CacheLaws
 pub mod CheckLaws
 pub mod CoverLaws
-pub mod Deliver
 pub mod ExecLaws
 pub mod Faults
 pub mod GraphLaws

@@ -15,17 +15,18 @@ use Rattle.pebble_cli.specs.Answers.{Answers}
 use Rattle.command_answers.specs.PlanAnswers.{PlanNumbers, IsPlanned, IsShown, plan_asked, plan_text, rows_asked, verdict_status}
 use Rattle.command_answers.specs.PlayedGames.{played_for}
 use Rattle.command_answers.specs.Refusals.{IsFaulty, IsTooSmall}
+use Rattle.desk_io.specs.Known.{ToldFile}
 
 -- The answers of `plan`: a kernel's fault, too few slots, or a plan with its verdict.
 abbrev pub PlanStatuses : Type 0
-PlanStatuses = (asked : Planning) (input : List ℕ) (file : Option (Option (List ℕ))) (status : Status) (printed : List ℕ) (table : Option (List ℕ))
+PlanStatuses = (asked : Planning) (input : List ℕ) (file : ToldFile) (status : Status) (printed : List ℕ) (table : Option (List ℕ))
     → Answers (Some (Plan asked)) input file status printed table
     → ((status ≡ Kernel) × IsFaulty input status printed table) ⊎ (((status ≡ TooSmall) × IsTooSmall asked.slots input status printed table)
     ⊎ (((status ≡ Optimal) ⊎ (status ≡ Open)) × IsPlanned asked input status printed table))
 
 -- Something holds of each answer of `plan` to an accepted kernel with more slots than the degree of its graph.
 abbrev pub OfPlans : (Planning → KernelParts → GraphParts → Status → List ℕ → Option (List ℕ) → Type 0) → Type 0
-OfPlans P = (asked : Planning) (input : List ℕ) (file : Option (Option (List ℕ))) (status : Status) (printed : List ℕ) (table : Option (List ℕ))
+OfPlans P = (asked : Planning) (input : List ℕ) (file : ToldFile) (status : Status) (printed : List ℕ) (table : Option (List ℕ))
     (kernel : KernelParts) (graph : GraphParts) → Answers (Some (Plan asked)) input file status printed table → IsAccepted input kernel graph
     → degree (dag_of graph) < asked.slots → P asked kernel graph status printed table
 

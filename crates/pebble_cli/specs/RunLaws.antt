@@ -13,11 +13,12 @@ use Rattle.command_answers.specs.Accepted.{IsAccepted}
 use Rattle.pebble_cli.specs.Answers.{Answers}
 use Rattle.command_answers.specs.Refusals.{IsFaulty}
 use Rattle.command_answers.specs.RunAnswers.{IsValued, IsWrongValues, IsValuesFile, IsNoValuesFile}
+use Rattle.desk_io.specs.Known.{ToldFile}
 use Rattle.command_answers.specs.ValuesFiles.{values_fault_text}
 
 -- The answers of `run`: a kernel's fault, the outputs on the values of the file, or that it holds none.
 abbrev pub RunStatuses : Type 0
-RunStatuses = (input : List ℕ) (file : Option (Option (List ℕ))) (status : Status) (printed : List ℕ) (table : Option (List ℕ))
+RunStatuses = (input : List ℕ) (file : ToldFile) (status : Status) (printed : List ℕ) (table : Option (List ℕ))
     → Answers (Some Run) input file status printed table
     → ((status ≡ Kernel) × IsFaulty input status printed table) ⊎ (((status ≡ Done) × IsValued input file status printed table) ⊎ ((status ≡ Values) × IsWrongValues input file status printed table))
 

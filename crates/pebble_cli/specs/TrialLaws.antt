@@ -17,12 +17,13 @@ use Rattle.pebble_cli.specs.Answers.{Answers}
 use Rattle.pebble_cli.specs.Faults.{ReadCause}
 use Rattle.command_answers.specs.PlanAnswers.{PlanNumbers, IsShown, facts_of}
 use Rattle.command_answers.specs.Refusals.{IsTooSmall}
+use Rattle.desk_io.specs.Known.{ToldFile}
 use Rattle.command_answers.specs.TrialAnswers.{IsTried, planning_of}
 use Rattle.command_words.specs.Words.{IsInLimits}
 
 -- Something holds of each answer of `trial` to numbers in their range.
 abbrev pub OfTrials : (TrialPlanning → Status → List ℕ → Option (List ℕ) → Type 0) → Type 0
-OfTrials P = (asked : TrialPlanning) (input : List ℕ) (file : Option (Option (List ℕ))) (status : Status) (printed : List ℕ) (table : Option (List ℕ))
+OfTrials P = (asked : TrialPlanning) (input : List ℕ) (file : ToldFile) (status : Status) (printed : List ℕ) (table : Option (List ℕ))
     → IsInLimits (Trial asked) → Answers (Some (Trial asked)) input file status printed table → P asked status printed table
 
 -- The answers of `trial`: too few slots, or the lines and the table of a plan. A trial kernel has no fault.

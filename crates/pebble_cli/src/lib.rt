@@ -3,10 +3,8 @@
 //! A caller needs the desk of `desk_io`, the name of its file, which [`file_word`] finds among the words, and the [`Status`] that [`pebble`] answers.
 #![tactic(auto)]
 
-mod deliver;
 pub mod laws;
 mod prepare;
-mod reading;
 mod top;
 
 pub use command_answers::Status;

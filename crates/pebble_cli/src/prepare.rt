@@ -5,7 +5,7 @@ ghost use Rattle.comp_graph.specs.Games.{AreWeights};
 ghost use Rattle.comp_graph.specs.Graphs.{dag_of};
 ghost use Rattle.desk_io.specs.declared.desk.Kind.{Kind};
 ghost use Rattle.desk_io.specs.Counts.{Rose};
-ghost use Rattle.desk_io.specs.Known.{TookAtMost, input_end};
+ghost use Rattle.desk_io.specs.Known.{ToldFile, TookAtMost, input_end};
 ghost use Rattle.kernel_ast.specs.KernelParts.{KernelParts};
 ghost use Rattle.scratch_machine.specs.Codes.{CodeParts};
 ghost use Rattle.command_words.specs.declared.commands.Subject.{Subject};
@@ -18,14 +18,15 @@ ghost use Rattle.command_answers.specs.ExecAnswers.{Executes};
 ghost use Rattle.command_answers.specs.MadeAnswers.{Meets, IfAnswer, IsFileOf};
 ghost use Rattle.command_answers.specs.Refusals.{IsTooSmall};
 ghost use Rattle.command_answers.specs.RunAnswers.{Runs};
-ghost use Rattle.command_answers.specs.Status.{IsOfRead};
+ghost use Rattle.command_answers.specs.Status.{NeedsWholeInput};
 ghost use Rattle.command_answers.specs.Subjects.{kernel_text};
-ghost use Rattle.pebble_cli.specs.Answers.{Answers, LastAnswers, IsAdmitted};
-ghost use Rattle.pebble_cli.specs.Deliver.{SameWriteFaults};
-ghost use Rattle.pebble_cli.specs.Faults.{ReadCause, SameTakeFaults, LeavesRest, input_limit};
+ghost use Rattle.pebble_cli.specs.Answers.{Answers, OwnAnswers, IsAdmitted};
+ghost use Rattle.answer_desk.specs.Deliver.{SameWriteFaults};
+ghost use Rattle.pebble_cli.specs.Faults.{ReadCause, input_limit};
+ghost use Rattle.answer_desk.specs.Takes.{SameTakeFaults, LeavesRest};
 ghost use Rattle.pebble_cli.specs.InputAnswers.{AnswersInput};
 
-use crate::reading::{code_input, file_bytes, kernel_input};
+use answer_desk::{code_input, file_bytes, kernel_input};
 use command_answers::cache::cache_answer;
 use command_answers::check::check_answer;
 use command_answers::code_fault::readable_code;
@@ -107,9 +108,9 @@ fn file_answer(
     requires slots { slots_of command ≡ Some game.now.slots }
     requires weights { game.now.weights ≡ played_weights command }
     requires room { degree (dag_of game.now.graph) < game.now.slots }
-    requires limit { (told : Option (Option (List ℕ))) × IsFileOf told 20000000 file.now }
-    ensures { IfOk result (λ answer. (text : List ℕ) (kernel : KernelParts) (told : Option (Option (List ℕ))) →
-        IsAccepted text kernel game.now.graph → IsFileOf told 20000000 file.now → Meets (LastAnswers command text told) answer) }
+    requires limit { (told : ToldFile) × IsFileOf told 20000000 file.now }
+    ensures { IfOk result (λ answer. (text : List ℕ) (kernel : KernelParts) (told : ToldFile) →
+        IsAccepted text kernel game.now.graph → IsFileOf told 20000000 file.now → Meets (OwnAnswers command text told) answer) }
 {
     match command {
         Command::Check(asked) => check_answer(alloc, game, asked, file),
@@ -133,7 +134,7 @@ fn game_on_file<D: Desk>(
     requires weights { game.now.weights ≡ played_weights command }
     requires room { degree (dag_of game.now.graph) < game.now.slots }
     ensures answers { (text : List ℕ) (kernel : KernelParts) → IsAccepted text kernel game.now.graph →
-        IfAnswer result (Meets (LastAnswers command text (D.file desk.old))) }
+        IfAnswer result (Meets (OwnAnswers command text (D.file desk.old))) }
     ensures fault { result ≡ Err EarlyEnd.ReadFault →
         Rose (D.faults desk.old Kind.TakeFile) (D.faults desk.new Kind.TakeFile) }
     ensures same_takes { D.faults desk.new Kind.TakeInput ≡ D.faults desk.old Kind.TakeInput }
@@ -165,7 +166,7 @@ fn graph_on_file<D: Desk>(
     requires few { slots ≤ 64 }
     requires limits { AreWeights weights }
     ensures answers { (text : List ℕ) (kernel : KernelParts) → IsAccepted text kernel graph →
-        IfAnswer result (λ answer. Meets (IsTooSmall slots text) answer ⊎ Meets (LastAnswers command text (D.file desk.old)) answer) }
+        IfAnswer result (λ answer. Meets (IsTooSmall slots text) answer ⊎ Meets (OwnAnswers command text (D.file desk.old)) answer) }
     ensures fault { result ≡ Err EarlyEnd.ReadFault → (degree (dag_of graph) < slots)
         × Rose (D.faults desk.old Kind.TakeFile) (D.faults desk.new Kind.TakeFile) }
     ensures same_takes { D.faults desk.new Kind.TakeInput ≡ D.faults desk.old Kind.TakeInput }
@@ -242,7 +243,7 @@ fn command_answer<D: Desk>(
     ensures early { result ≡ Err EarlyEnd.ReadFault →
         TookAtMost (D.input desk.old) (D.input desk.new) (input_limit (Some command)) }
     ensures read_whole { reads_input (Some command) ≡ true →
-        IfAnswer result (λ answer. IsOfRead answer.status → D.input desk.new ≡ input_end (D.input desk.old)) }
+        IfAnswer result (λ answer. NeedsWholeInput answer.status → D.input desk.new ≡ input_end (D.input desk.old)) }
     ensures untouched { reads_input (Some command) ≡ false → D.input desk.new ≡ D.input desk.old }
     ensures rest_left { LeavesRest (D.input desk.old) (D.input desk.new) }
     ensures no_vain_take { result ≢ Err EarlyEnd.ReadFault → SameTakeFaults (D.faults desk.old) (D.faults desk.new) }
@@ -279,7 +280,7 @@ pub fn prepare<D: Desk>(alloc: Global, words: &[String], desk: &mut D) -> Result
     ensures early { result ≡ Err Status.ReadFault →
         TookAtMost (D.input desk.old) (D.input desk.new) (input_limit (asked_by words.now)) }
     ensures read_whole { reads_input (asked_by words.now) ≡ true →
-        IfOk result (λ answer. IsOfRead answer.status → D.input desk.new ≡ input_end (D.input desk.old)) }
+        IfOk result (λ answer. NeedsWholeInput answer.status → D.input desk.new ≡ input_end (D.input desk.old)) }
     ensures untouched { reads_input (asked_by words.now) ≡ false → D.input desk.new ≡ D.input desk.old }
     ensures rest_left { LeavesRest (D.input desk.old) (D.input desk.new) }
     ensures no_vain_take { result ≢ Err Status.ReadFault → SameTakeFaults (D.faults desk.old) (D.faults desk.new) }

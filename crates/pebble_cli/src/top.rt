@@ -9,16 +9,17 @@ ghost use Rattle.command_words.specs.declared.commands.Command.{Command};
 ghost use Rattle.command_words.specs.declared.commands.Command.TheVariants.{Plan};
 ghost use Rattle.command_words.specs.declared.commands.Planning.{Planning};
 ghost use Rattle.command_answers.specs.declared.status.Status.{Status};
-ghost use Rattle.pebble_cli.specs.Answers.{Answers, LastAnswers, IsAdmitted};
+ghost use Rattle.pebble_cli.specs.Answers.{Answers, OwnAnswers, IsAdmitted};
 ghost use Rattle.command_words.specs.Commands.{reads_input, reads_file, writes_file};
-ghost use Rattle.pebble_cli.specs.Deliver.{Delivered, CutShort, SameWriteFaults};
-ghost use Rattle.pebble_cli.specs.Faults.{ReadCause, SameTakeFaults, LeavesRest, IsFileTold, input_limit};
+ghost use Rattle.answer_desk.specs.Deliver.{Delivered, CutShort, SameWriteFaults};
+ghost use Rattle.pebble_cli.specs.Faults.{ReadCause, IsFileTold, input_limit};
+ghost use Rattle.answer_desk.specs.Takes.{SameTakeFaults, LeavesRest};
 ghost use Rattle.command_answers.specs.PlanAnswers.{IsPlanned};
-ghost use Rattle.command_answers.specs.Status.{IsOfRead, IsYielded, is_last};
+ghost use Rattle.command_answers.specs.Status.{NeedsWholeInput, IsYielded, is_own};
 ghost use Rattle.command_words.specs.Words.{asked_by, file_named_by};
 
-use crate::deliver::deliver;
 use crate::prepare::prepare;
+use answer_desk::deliver;
 use command_answers::Status;
 use desk_io::{Desk, HonestDesk, WriteFault};
 use std::alloc::Global;
@@ -32,7 +33,7 @@ use std::alloc::Global;
 pub fn pebble<D: Desk>(alloc: Global, words: &[String], desk: &mut D) -> Status
     requires { D.name desk.old ≡ file_named_by words.now }
 
-    // The plan: exactly one report and code text was printed, and the file holds exactly one table.
+    // The plan: exactly one report and code text was printed, and the file holds exactly one table. It is the case of `own` for `plan`.
     ensures headline { (asked : Planning) → asked_by words.now ≡ Some (Plan asked) →
         (result ≡ Status.Optimal) ⊎ (result ≡ Status.Open) →
         (text : List ℕ) × (printed : List ℕ) × (table : List ℕ)
@@ -41,10 +42,11 @@ pub fn pebble<D: Desk>(alloc: Global, words: &[String], desk: &mut D) -> Status
         × (D.file desk.new ≡ file_of (D.file desk.old) table) }
 
     // A command's own answer, of whichever command: a text was read that nothing refuses, what the command's definition asks for was printed
-    // and written whole, and the status is its own. So the definition of each command is a promise of this call, as that of `plan` is.
-    ensures own { (asked : Command) → asked_by words.now ≡ Some asked → is_last result ≡ true →
+    // and written whole, and the status is its own. So the definition of each command is a promise of this call. It is the case of `said` in which
+    // nothing refuses the input.
+    ensures own { (asked : Command) → asked_by words.now ≡ Some asked → is_own result ≡ true →
         (text : List ℕ) × (printed : List ℕ) × (table : Option (List ℕ)) × Tells (D.input desk.old) text × IsAdmitted asked text
-        × LastAnswers asked text (D.file desk.old) result printed table × Delivered D.file D.output desk.old desk.new printed table }
+        × OwnAnswers asked text (D.file desk.old) result printed table × Delivered D.file D.output desk.old desk.new printed table }
 
     // The whole answer was delivered: the text that was read, and what answers it, printed and written whole.
     ensures said { result ≢ Status.ReadFault → result ≢ Status.WriteFault → result ≢ Status.NoMemory →
@@ -56,7 +58,7 @@ pub fn pebble<D: Desk>(alloc: Global, words: &[String], desk: &mut D) -> Status
     // that comes, but for faults of the desk and of memory; and where it comes it is printed and written whole.
     ensures determined { (text : List ℕ) (status : Status) (printed : List ℕ) (table : Option (List ℕ)) →
         (reads_input (asked_by words.now) ≡ true → D.input desk.old ≡ Some text) →
-        (is_last status ≡ true → IsFileTold (asked_by words.now) (D.file desk.old)) →
+        (is_own status ≡ true → IsFileTold (asked_by words.now) (D.file desk.old)) →
         Answers (asked_by words.now) text (D.file desk.old) status printed table →
         IsYielded result status × (result ≡ status → Delivered D.file D.output desk.old desk.new printed table) }
 
@@ -90,7 +92,7 @@ pub fn pebble<D: Desk>(alloc: Global, words: &[String], desk: &mut D) -> Status
     ensures complete { (asked : Command) (text : List ℕ) → asked_by words.now ≡ Some asked →
         (reads_input (asked_by words.now) ≡ true → D.input desk.old ≡ Some text) →
         IsAdmitted asked text → ((kind : Kind) → Rose (D.faults desk.old kind) (D.faults desk.new kind) → ⊥) →
-        (is_last result ≡ true) ⊎ (result ≡ Status.NoMemory) }
+        (is_own result ≡ true) ⊎ (result ≡ Status.NoMemory) }
 
     // No write was tried in vain, but where a write fault is answered.
     ensures no_vain_write { result ≢ Status.WriteFault → SameWriteFaults (D.faults desk.old) (D.faults desk.new) }
@@ -108,19 +110,19 @@ pub fn pebble<D: Desk>(alloc: Global, words: &[String], desk: &mut D) -> Status
         (result ≡ Status.Usage) ⊎ ((result ≡ Status.WriteFault) ⊎ (result ≡ Status.NoMemory)) }
 
     // The input is read to its end before an answer that needs the whole of it, and not touched by words that do not ask for it.
-    ensures read_whole { reads_input (asked_by words.now) ≡ true → IsOfRead result →
+    ensures read_whole { reads_input (asked_by words.now) ≡ true → NeedsWholeInput result →
         D.input desk.new ≡ input_end (D.input desk.old) }
     ensures untouched { reads_input (asked_by words.now) ≡ false → D.input desk.new ≡ D.input desk.old }
 
     // What was taken of the input stood at its front, and the rest is left.
     ensures rest_left { LeavesRest (D.input desk.old) (D.input desk.new) }
 
-    // The file changes only where the command writes it, with an answer of its own or a write fault, and where nothing refuses the input, which
-    // the desk tells if the command reads it.
+    // The file stays as it was: by the words, if the command does not write it; by the status, on each but a command's own and a write
+    // fault; and by the input, if something refuses it, on every status (the desk tells the input, if the command reads it).
     ensures file_kept { writes_file (asked_by words.now) ≡ false → D.file desk.new ≡ D.file desk.old }
-    ensures refusals_keep { is_last result ≡ false → result ≢ Status.WriteFault →
+    ensures kept_by_status { is_own result ≡ false → result ≢ Status.WriteFault →
         D.file desk.new ≡ D.file desk.old }
-    ensures refused_keep { (asked : Command) (text : List ℕ) → asked_by words.now ≡ Some asked →
+    ensures kept_by_input { (asked : Command) (text : List ℕ) → asked_by words.now ≡ Some asked →
         (reads_input (asked_by words.now) ≡ true → D.input desk.old ≡ Some text) →
         (IsAdmitted asked text → ⊥) → D.file desk.new ≡ D.file desk.old }
     ensures same_name { D.name desk.new ≡ D.name desk.old }
@@ -143,7 +145,7 @@ pub fn pebble_honest(alloc: Global, words: &[String], desk: &mut HonestDesk) -> 
         × Answers (asked_by words.now) desk.old.input.items None result printed table }
     // Where nothing refuses the input, an answer of the command's own comes, or memory was not found.
     ensures complete { (asked : Command) → asked_by words.now ≡ Some asked → IsAdmitted asked desk.old.input.items →
-        (is_last result ≡ true) ⊎ (result ≡ Status.NoMemory) }
+        (is_own result ≡ true) ⊎ (result ≡ Status.NoMemory) }
 {
     pebble(alloc, words, desk)
 }

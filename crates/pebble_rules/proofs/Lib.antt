@@ -4,3 +4,4 @@ pub mod FirstBound
 pub mod Calls
 pub mod Order
 pub mod Replays
+pub mod Transfers

@@ -9,6 +9,7 @@ use Rattle.pebble_rules.specs.Rules.{start, IsMove, moved, IsPebbling, position_
 use Rattle.pebble_rules.specs.Laws.{IsPossible, PossibleAboveDegree}
 use Rattle.pebble_rules.specs.declared.moves.Move.{Move}
 use Rattle.pebble_rules.specs.declared.moves.Move.TheVariants.{Load, Store, Compute, DropRed, DropBlue}
+use Rattle.comp_graph.proofs.Appended.{after_both, allowed_both}
 use Rattle.comp_graph.specs.Sets.{membership, same}
 use Rattle.comp_graph.proofs.Sets.{by_insert, in_insert_same, in_insert, size_insert_new, size_insert_le, size_within, size_empty}
 use Rattle.comp_graph.proofs.DagLaws.{leads_cases, live_before, live_output, live_vertex, degree_bounds, degree_some}
@@ -116,12 +117,10 @@ record Reaches (g : PebbleGame) (p : Position) (P : Position → Type 0) : Type 
   holds : P (position_after p moves)
 
 pub append_position : (p : Position) (ms ns : List Move) → position_after p (ms ++ ns) ≡ position_after (position_after p ms) ns
-append_position p [] ns = refl
-append_position p (m ∷ ms) ns = append_position (moved p m) ms ns
+append_position = after_both moved position_after (λ p. refl) (λ p m ms. refl)
 
 pub append_pebbling : (g : PebbleGame) (p : Position) (ms ns : List Move) → IsPebbling g p ms → IsPebbling g (position_after p ms) ns → IsPebbling g p (ms ++ ns)
-append_pebbling g p [] ns h k = k
-append_pebbling g p (m ∷ ms) ns h k = (h.0, append_pebbling g (moved p m) ms ns h.1 k)
+append_pebbling g = allowed_both moved position_after (λ p. refl) (λ p m ms. refl) (IsMove g) (IsPebbling g) (λ p m ms both. both) (λ p m ms first rest. (first, rest))
 
 here : (g : PebbleGame) (p : Position) (P : Position → Type 0) → P p → Reaches g p P
 here g p P h = record { moves = []; pebbling = tt; holds = h }

@@ -2,7 +2,7 @@
 ghost use Rattle.std.specs.Prelude.{◌≡◌, ◌++◌, ◌∷◌, [], OnOk, IfOk};
 ghost use Rattle.std.specs.Fmt.{decimal};
 ghost use Rattle.line_texts.specs.Lines.{ended};
-ghost use Rattle.plan_report.specs.ReportText.{remark, game_lines, weight_lines, plan_lines, verdict_word, report_text};
+ghost use Rattle.plan_report.specs.ReportText.{remark, game_lines, weight_lines, plan_lines_within, verdict_word, report_text, effort_report_text};
 
 use comp_graph::{Label, NoMemory, Weights};
 use std::alloc::Global;
@@ -42,10 +42,36 @@ pub struct Facts {
 pub fn report(alloc: Global, title: &Label, facts: &Facts) -> Result<Vec<u8>, NoMemory>
     ensures { IfOk result (λ text. text.items ≡ report_text title.now facts.now) }
 {
+    report_within(alloc, title, facts, "budget", facts.budget)
+}
+
+/// The report of a plan that was improved: the same lines, with `effort`, from 0 to 200, in place of `budget`. [`NoMemory`] as there.
+pub fn effort_report(
+    alloc: Global,
+    title: &Label,
+    facts: &Facts,
+    effort: u32,
+) -> Result<Vec<u8>, NoMemory>
+    ensures { IfOk result (λ text. text.items ≡ effort_report_text title.now effort facts.now) }
+{
+    report_within(alloc, title, facts, "effort", effort)
+}
+
+// The report, with the limit of the search by its name.
+fn report_within(
+    alloc: Global,
+    title: &Label,
+    facts: &Facts,
+    name: &str,
+    limit: u32,
+) -> Result<Vec<u8>, NoMemory>
+    ensures { IfOk result (λ text. text.items ≡ ended (game_lines title.now facts.now
+        ++ (weight_lines facts.now.weights ++ plan_lines_within name.now limit facts.now))) }
+{
     let mut text = Vec::new(alloc);
     add_game(alloc, &mut text, title, facts)?;
     add_weights(alloc, &mut text, facts.weights)?;
-    add_plan(alloc, &mut text, facts)?;
+    add_plan(alloc, &mut text, facts, name, limit)?;
     Ok(text)
 }
 
@@ -73,15 +99,21 @@ fn add_weights(alloc: Global, text: &mut Vec<u8>, weights: Weights) -> Result<()
     Ok(())
 }
 
-// Adds the lines on costs, the bound, the search and the verdict.
-fn add_plan(alloc: Global, text: &mut Vec<u8>, facts: &Facts) -> Result<(), NoMemory>
-    ensures { OnOk result (text.new.items ≡ text.old.items ++ ended (plan_lines facts.now)) }
+// Adds the lines on costs, the bound, the search with its limit, and the verdict.
+fn add_plan(
+    alloc: Global,
+    text: &mut Vec<u8>,
+    facts: &Facts,
+    name: &str,
+    limit: u32,
+) -> Result<(), NoMemory>
+    ensures { OnOk result (text.new.items ≡ text.old.items ++ ended (plan_lines_within name.now limit facts.now)) }
 {
     add_number(alloc, text, "first", facts.first)?;
     add_number(alloc, text, "cost", facts.cost)?;
     add_number(alloc, text, "bound", facts.bound)?;
     add_number(alloc, text, "expanded", facts.expanded)?;
-    add_number(alloc, text, "budget", facts.budget)?;
+    add_number(alloc, text, name, limit)?;
     add_remark(text, "verdict", verdict_word(facts.optimal).as_bytes())?;
     Ok(())
 }

@@ -14,7 +14,7 @@ mod parts;
 mod trial;
 
 pub use cache::{CacheFacts, cache_text};
-pub use facts::{Facts, report};
+pub use facts::{Facts, effort_report, report};
 pub use graph::graph_text;
 pub use outputs::outputs_text;
 pub use parts::{PartFacts, parts_text};

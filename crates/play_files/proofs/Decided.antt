@@ -12,7 +12,7 @@ use Rattle.line_texts.specs.Lines.{HasLines}
 use Rattle.line_texts.proofs.Reading as reading
 use Rattle.play_files.specs.PlayText.{line_of_move}
 use Rattle.play_files.specs.PlayTexts.{ArePlayLines}
-use Rattle.play_files.specs.Reading.{State, start, Step, Ends}
+use Rattle.play_files.specs.Reading.{State, none_read, IsNextLine, Ends}
 use Rattle.play_files.specs.Laws.{AlwaysOne}
 use Rattle.play_files.proofs.Reader.{reader}
 
@@ -74,10 +74,10 @@ move_told (suc n) line = elim (one_of_five n line) [
   ]
 ]
 
-step_told : (n : ℕ) (s : State) (line : List ℕ) → ((t : State) × Step n s line t) ⊎ ((t : State) → Step n s line t → ⊥)
+step_told : (n : ℕ) (s : State) (line : List ℕ) → ((t : State) × IsNextLine n s line t) ⊎ ((t : State) → IsNextLine n s line t → ⊥)
 step_told n s line = at_end s.done refl
   where
-    at_end : (b : Bool) → s.done ≡ b → ((t : State) × Step n s line t) ⊎ ((t : State) → Step n s line t → ⊥)
+    at_end : (b : Bool) → s.done ≡ b → ((t : State) × IsNextLine n s line t) ⊎ ((t : State) → IsNextLine n s line t → ⊥)
     at_end true e = inr (λ t step. let more = step.0 in cc)
     at_end false e = elim (move_told n line) [
       | inl said ↦ inl (record { moves = s.moves ++ said.0 ∷ []; done = false }, (e, inl (said.0, said.1, said.2, refl)))
@@ -101,7 +101,7 @@ end_or_not s = at s.done
     at false = inr (λ e. absurd (cc))
 
 pub always_one : AlwaysOne
-always_one n text small = elim (reading.some_answer (ArePlayLines n) State start (Step n) Ends (reader n small) (step_told n) end_or_not text) [
+always_one n text small = elim (reading.some_answer (ArePlayLines n) State none_read (IsNextLine n) Ends (reader n small) (step_told n) end_or_not text) [
   | inl h ↦ inl (h.2.0, (h.2.1, subst (HasLines text) h.2.2 h.1))
   | inr bad ↦ inr bad
 ]

@@ -17,7 +17,7 @@ use Rattle.line_texts.proofs.Fronts.{one_list_of_lines, has_lines, same_bad_line
 use Rattle.line_texts.proofs.Reading as reading
 use Rattle.play_files.specs.PlayText.{word_of, line_of_move, lines_of_play, play_text}
 use Rattle.play_files.specs.PlayTexts.{NameVertices, ArePlayLines, ReadsAs}
-use Rattle.play_files.specs.Reading.{State, start, Step, Ends, IsMoveOf, IsMoveLine}
+use Rattle.play_files.specs.Reading.{State, none_read, IsNextLine, Ends, IsMoveOf, IsMoveLine}
 use Rattle.play_files.specs.Laws.{ReadsBack, OneReading, NoPrefix, OneBadLine, NeverBoth, PlaysAreShort}
 use Rattle.play_files.proofs.Moves.{one_move, move_is_line, move_is_no_comment, move_is_not_end, move_parts}
 
@@ -31,7 +31,7 @@ abbrev IsBelow : ℕ → Move → Type 0
 IsBelow n m = vertex_of m < n
 
 module _ (n : ℕ) (small : n < 2 ^ 16) where
-  one_step : (s : State) (l : List ℕ) (t u : State) → Step n s l t → Step n s l u → t ≡ u
+  one_step : (s : State) (l : List ℕ) (t u : State) → IsNextLine n s l t → IsNextLine n s l u → t ≡ u
   one_step s l t u (a, inl h) (b, inl k) =
       let same = one_move h.0 k.0 (let p = h.1 in omega arith) (let p = k.1 in omega arith) (sym h.2 ∙ k.2) in
       h.3 ∙ ap (λ m. opened (s.moves ++ m ∷ [])) same ∙ sym k.3
@@ -40,7 +40,7 @@ module _ (n : ℕ) (small : n < 2 ^ 16) where
   one_step s l t u (a, inr h) (b, inr k) = h.1 ∙ sym k.1
 
   abbrev pub Runs : State → List (List ℕ) → State → Type 0
-  Runs = reading.Runs (ArePlayLines n) State start (Step n) Ends
+  Runs = reading.Runs (ArePlayLines n) State none_read (IsNextLine n) Ends
 
   -- the lines of moves lead behind others
   run_moves : (before moves : List Move) → NameVertices n moves → Runs (opened before) (lines_of_play moves) (closed (before ++ moves))
@@ -61,7 +61,7 @@ module _ (n : ℕ) (small : n < 2 ^ 16) where
     pub names : NameVertices n t.moves
     pub lines : said done before ++ ls ≡ said t.done t.moves
 
-  step_reached : (before : List Move) (done : Bool) (l : List ℕ) (t : State) → NameVertices n before → Step n (record { moves = before; done = done }) l t → Reached before done (l ∷ []) t
+  step_reached : (before : List Move) (done : Bool) (l : List ℕ) (t : State) → NameVertices n before → IsNextLine n (record { moves = before; done = done }) l t → Reached before done (l ∷ []) t
   step_reached before true l t all h = absurd (let e = h.0 in cc)
   step_reached before false l t all (a, inl h) = subst (Reached before false (l ∷ [])) (sym h.3) (record {
     names = All-push (IsBelow n) before h.0 all h.1;
@@ -79,31 +79,31 @@ module _ (n : ℕ) (small : n < 2 ^ 16) where
       let rest = run_reached ls h.0 t one.names h.2 in
       record { names = rest.names; lines = sym (append_assoc (said s.done s.moves) (l ∷ []) ls) ∙ ap (λ z. z ++ ls) one.lines ∙ rest.lines }
 
-  pub reached : (ls : List (List ℕ)) (t : State) → Runs start ls t → NameVertices n t.moves × (ls ≡ said t.done t.moves)
-  reached ls t h = let r = run_reached ls start t (All-nil (IsBelow n)) h in (r.names, r.lines)
+  pub reached : (ls : List (List ℕ)) (t : State) → Runs none_read ls t → NameVertices n t.moves × (ls ≡ said t.done t.moves)
+  reached ls t h = let r = run_reached ls none_read t (All-nil (IsBelow n)) h in (r.names, r.lines)
 
-  pub whole_lines : (ls : List (List ℕ)) (t : State) → Runs start ls t → Ends t → NameVertices n t.moves × (ls ≡ lines_of_play t.moves)
+  pub whole_lines : (ls : List (List ℕ)) (t : State) → Runs none_read ls t → Ends t → NameVertices n t.moves × (ls ≡ lines_of_play t.moves)
   whole_lines ls t h end = let r = reached ls t h in (r.0, r.1 ∙ ap (λ b. said b t.moves) end)
 
   begins_by : (done : Bool) (moves : List Move) (ls : List (List ℕ)) → NameVertices n moves → ls ≡ said done moves → BeginsText (ArePlayLines n) ls
   begins_by false moves ls all e = (codes "end" ∷ [], (moves, all, ap (λ z. z ++ codes "end" ∷ []) e))
   begins_by true moves ls all e = ([], (moves, all, append-nil ls ∙ e))
 
-  pub reader : reading.IsReader (ArePlayLines n) State start (Step n) Ends
+  pub reader : reading.IsReader (ArePlayLines n) State none_read (IsNextLine n) Ends
   reader = record {
     one = one_step;
-    reads = λ ls g. (closed g.0, subst (λ xs. Runs start xs (closed g.0)) (sym g.2) (run_moves [] g.0 g.1), refl);
+    reads = λ ls g. (closed g.0, subst (λ xs. Runs none_read xs (closed g.0)) (sym g.2) (run_moves [] g.0 g.1), refl);
     whole = λ ls t h end. let w = whole_lines ls t h end in (t.moves, w.0, w.1);
     goes_on = λ ls t h. let r = reached ls t h in begins_by t.done t.moves ls r.0 r.1;
   }
 
-  last : (s : State) (l : List ℕ) (t : State) → Ends s → Step n s l t → ⊥
+  last : (s : State) (l : List ℕ) (t : State) → Ends s → IsNextLine n s l t → ⊥
   last s l t end step = let open_yet = step.0 in cc
 
   moves_same : (some others : List Move) → NameVertices n some → NameVertices n others → lines_of_play some ≡ lines_of_play others → some ≡ others
   moves_same some others a b e =
-      let same = reading.runs_same (ArePlayLines n) State start (Step n) Ends reader (lines_of_play others) start (closed some) (closed others)
-      (subst (λ ls. Runs start ls (closed some)) e (run_moves [] some a)) (run_moves [] others b) in
+      let same = reading.runs_same (ArePlayLines n) State none_read (IsNextLine n) Ends reader (lines_of_play others) none_read (closed some) (closed others)
+      (subst (λ ls. Runs none_read ls (closed some)) e (run_moves [] some a)) (run_moves [] others b) in
       ap (λ (s : State). s.moves) same
 
   end_is_line : IsLine (codes "end")
@@ -130,36 +130,36 @@ module _ (n : ℕ) (small : n < 2 ^ 16) where
 
   pub no_prefix_below : (some others : List Move) (more : List ℕ) → NameVertices n some → NameVertices n others → play_text others ≡ play_text some ++ more → (some ≡ others) × (more ≡ [])
   no_prefix_below some others more a b e =
-      let w = reading.no_prefix (ArePlayLines n) State start (Step n) Ends reader last (lines_of_play some) (lines_of_play others) more (play_are_lines some a) (play_are_lines others b) (some, a, refl) (others, b, refl) e in
+      let w = reading.no_prefix (ArePlayLines n) State none_read (IsNextLine n) Ends reader last (lines_of_play some) (lines_of_play others) more (play_are_lines some a) (play_are_lines others b) (some, a, refl) (others, b, refl) e in
       (moves_same some others a b (sym w.0), w.1)
 
   -- ---- what the loop over the lines has read
 
   abbrev pub IsReadUpTo : List ℕ → List ℕ → ℕ → State → Type 0
-  IsReadUpTo text rest k s = reading.IsReadUpTo (ArePlayLines n) State start (Step n) Ends reader text rest k s
+  IsReadUpTo text rest k s = reading.IsReadUpTo (ArePlayLines n) State none_read (IsNextLine n) Ends reader text rest k s
 
-  pub first_line : (text : List ℕ) → IsReadUpTo text text 1 start
-  first_line text = reading.nothing_read (ArePlayLines n) State start (Step n) Ends reader text
+  pub first_line : (text : List ℕ) → IsReadUpTo text text 1 none_read
+  first_line text = reading.nothing_read (ArePlayLines n) State none_read (IsNextLine n) Ends reader text
 
   module _ (text rest : List ℕ) (k : ℕ) (s : State) (up : IsReadUpTo text rest k s) where
     module _ (line after : List ℕ) (next : BeginsWith rest (line ∷ []) after) where
-      pub line_read : (t : State) → IsPassed (Step n) s line t → IsReadUpTo text after (k + 1) t
-      line_read t passed = reading.line_read (ArePlayLines n) State start (Step n) Ends reader text rest k s up line after next t passed
+      pub line_read : (t : State) → IsPassed (IsNextLine n) s line t → IsReadUpTo text after (k + 1) t
+      line_read t passed = reading.line_read (ArePlayLines n) State none_read (IsNextLine n) Ends reader text rest k s up line after next t passed
 
-      pub bad_line : IsRefused (Step n) s line → IsBadLine (ArePlayLines n) text k
-      bad_line refused = reading.bad_line (ArePlayLines n) State start (Step n) Ends reader text rest k s up line after next refused
+      pub bad_line : IsRefused (IsNextLine n) s line → IsBadLine (ArePlayLines n) text k
+      bad_line refused = reading.bad_line (ArePlayLines n) State none_read (IsNextLine n) Ends reader text rest k s up line after next refused
 
     pub bad_last : IsLine rest → rest ≢ [] → IsBadLine (ArePlayLines n) text k
-    bad_last piece some = reading.bad_last (ArePlayLines n) State start (Step n) Ends reader text rest k s up piece some
+    bad_last piece some = reading.bad_last (ArePlayLines n) State none_read (IsNextLine n) Ends reader text rest k s up piece some
 
     pub bad_end : rest ≡ [] → (Ends s → ⊥) → IsBadLine (ArePlayLines n) text k
-    bad_end none not_end = reading.bad_end (ArePlayLines n) State start (Step n) Ends reader text rest k s up none not_end
+    bad_end none not_end = reading.bad_end (ArePlayLines n) State none_read (IsNextLine n) Ends reader text rest k s up none not_end
 
     -- where nothing is left and the moves are whole, the text reads as them
     pub all_read : rest ≡ [] → Ends s → ReadsAs n text s.moves
     all_read none end =
         let w = whole_lines (without_comments up.before) s up.runs end in
-        (w.0, subst (HasLines text) w.1 (reading.all_read (ArePlayLines n) State start (Step n) Ends reader text rest k s up none))
+        (w.0, subst (HasLines text) w.1 (reading.all_read (ArePlayLines n) State none_read (IsNextLine n) Ends reader text rest k s up none))
 
 pub reads_back : ReadsBack
 reads_back n moves small all = reads_back_below n small moves all

@@ -1,4 +1,6 @@
--- The one normal play that follows a pebbling: what it makes of each move, and so its steps.
+-- The one normal play that follows a pebbling: what it makes of each move, and so its steps. The definitions go as the loop of `tidy`
+-- does, and need not be trusted: by the law `one_play` (src/laws.rt), a list of moves has at most one such play, and a complete pebbling
+-- has one, which finishes and costs no more than the pebbling (`AreTidied` in Tidying.antt).
 use Rattle.std.specs.Prelude.{◌≡◌, ℕ, ◌≤◌, ◌<◌, List, [], ◌∷◌, ◌++◌, ◌⊎◌, cond, true, false}
 use Rattle.std.specs.FinSet as set
 use Rattle.comp_graph.specs.Vertices.{Vertices, ◌∈◌, ◌∉◌, IsLeast, size}

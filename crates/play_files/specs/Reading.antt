@@ -14,9 +14,11 @@ pub record State : Type 0 where
   pub moves : List Move
   pub done : Bool
 
-abbrev pub start : State
-start = record { moves = []; done = false }
+-- no move was read, and not the end
+abbrev pub none_read : State
+none_read = record { moves = []; done = false }
 
+-- what a draft says was read
 abbrev pub state_of : Draft → State
 state_of d = record { moves = d.moves.items; done = d.done }
 
@@ -29,8 +31,8 @@ abbrev pub AddsEnd : List Move → List ℕ → State → Type 0
 AddsEnd moves line t = (line ≡ codes "end") × (t ≡ record { moves = moves; done = true })
 
 -- the line may come next, and leads to t
-abbrev pub Step : ℕ → State → List ℕ → State → Type 0
-Step n s line t = (s.done ≡ false) × (AddsMove n s.moves line t ⊎ AddsEnd s.moves line t)
+abbrev pub IsNextLine : ℕ → State → List ℕ → State → Type 0
+IsNextLine n s line t = (s.done ≡ false) × (AddsMove n s.moves line t ⊎ AddsEnd s.moves line t)
 
 -- the moves are whole
 abbrev pub Ends : State → Type 0

@@ -1,7 +1,7 @@
 //! Moves that are being read.
 ghost use Rattle.std.specs.Prelude.{◌≡◌, IfOk};
 ghost use Rattle.line_texts.specs.Steps.{IsLineAnswer};
-ghost use Rattle.play_files.specs.Reading.{start, state_of, Step, IsMoveOf, IsMoveLine};
+ghost use Rattle.play_files.specs.Reading.{none_read, state_of, IsNextLine, IsMoveOf, IsMoveLine};
 
 use comp_graph::NoMemory;
 use line_texts::{is_comment, last_number, up_to};
@@ -48,7 +48,7 @@ fn read_move(line: &[u8], vertices: u16) -> Option<Move>
 impl Draft {
     /// Nothing is read yet.
     pub(crate) fn new(alloc: Global) -> Draft
-        ensures { state_of result ≡ start }
+        ensures { state_of result ≡ none_read }
     {
         Draft {
             moves: Vec::new(alloc),
@@ -58,7 +58,7 @@ impl Draft {
 
     /// Reads a line: passes a comment over, and takes what any other line says, where that may come next.
     pub(crate) fn read_line(&mut self, line: &[u8], vertices: u16) -> Result<bool, NoMemory>
-        ensures { IfOk result (λ b. IsLineAnswer (Step vertices) b (state_of self.old) line.now (state_of self.new)) }
+        ensures { IfOk result (λ b. IsLineAnswer (IsNextLine vertices) b (state_of self.old) line.now (state_of self.new)) }
     {
         if is_comment(line) {
             return Ok(true);

@@ -8,7 +8,7 @@ use Rattle.position_arena.specs.Arenas.{Arena, Slot, no_slot, slot_at, IsWithinW
 use Rattle.position_arena.specs.Index.{hash_of, homed, probed, home_of, IsIndex, IsPlaced, keys_of, IsNoKey, IsKeyAt}
 use Rattle.position_arena.specs.RowsInside.{AreRows}
 use Rattle.position_arena.specs.SlotRows.{step_number, link_number, slot_row, slot_of, IsHead, IsSlotRow}
-use Rattle.position_arena.specs.Stores.{Table, with_rows, row_at}
+use Rattle.position_arena.specs.Stores.{StoredRows, with_rows, row_at}
 use Rattle.position_arena.proofs.IndexLaws.{hash_below, homed_below, length-keys, key_at-keys, placed_index, whole_after}
 use Rattle.position_arena.proofs.SlotLaws.{take-slot_row, slot_back, same_words, row_made, head_changed}
 
@@ -21,7 +21,7 @@ abbrev pub arena : ℕ → List (List ℕ) → Arena
 arena words rows = record { words = words; slots = map (slot_of words) rows }
 
 -- other rows in the same store
-pub same_rows : (words : ℕ) (store other : Table) (places more : List ℕ) → AreRows words store places → other.wide ≡ store.wide → other.rows ≡ store.rows
+pub same_rows : (words : ℕ) (store other : StoredRows) (places more : List ℕ) → AreRows words store places → other.wide ≡ store.wide → other.rows ≡ store.rows
     → IsIndex (keys_of (2 * words) store.rows) more → 3 * length store.rows ≤ 2 * length more → AreRows words other more
 same_rows words store other places more is wide rows index loose = record {
   narrow = is.narrow;
@@ -32,7 +32,7 @@ same_rows words store other places more is wide rows index loose = record {
   loose = subst (λ (rows : List (List ℕ)). 3 * length rows ≤ 2 * length more) (sym rows) loose;
 }
 
-module _ (words : ℕ) (store : Table) (places : List ℕ) (is : AreRows words store places) (a : Arena) (seen : arena words store.rows ≡ a) where
+module _ (words : ℕ) (store : StoredRows) (places : List ℕ) (is : AreRows words store places) (a : Arena) (seen : arena words store.rows ≡ a) where
   pub seen_words : a.words ≡ words
   seen_words = ap (λ a. a.words) (sym seen)
 
@@ -80,7 +80,7 @@ module _ (words : ℕ) (store : Table) (places : List ℕ) (is : AreRows words s
 
   -- ---- another head
 
-  module _ (k : ℕ) (h : k < length a.slots) (head : Head) (is_head : IsHead head) (next : Table)
+  module _ (k : ℕ) (h : k < length a.slots) (head : Head) (is_head : IsHead head) (next : StoredRows)
       (made : next ≡ with_rows store (set store.rows k (set (set (row_at store k) (2 * words) (link_number head)) (2 * words + 1) (step_number head.step)))) where
     inside : k < length store.rows
     inside = omega (arith, h, seen_len)
@@ -141,7 +141,7 @@ module _ (words : ℕ) (store : Table) (places : List ℕ) (is : AreRows words s
         ∙ (λ i. record { words = words; slots = (map-append (slot_of words) store.rows (slot_row words fresh ∷ []) ∙ ap (λ s. map (slot_of words) store.rows ++ s ∷ []) (slot_back words fresh is.narrow within_words is_head)) i })
         ∙ ap (λ (b : Arena). let s : Arena = record { words = b.words; slots = b.slots ++ fresh ∷ [] } in s) seen
 
-    pub more_rows : (next : Table) (before after : List ℕ) → next.wide ≡ store.wide → next.rows ≡ store.rows ++ slot_row words fresh ∷ [] → IsIndex (keys_of (2 * words) store.rows) before
+    pub more_rows : (next : StoredRows) (before after : List ℕ) → next.wide ≡ store.wide → next.rows ≡ store.rows ++ slot_row words fresh ∷ [] → IsIndex (keys_of (2 * words) store.rows) before
         → 3 * (length store.rows + 1) ≤ 2 * length before → IsPlaced before after (home_of before (row_words words p)) (length store.rows) → AreRows words next after
     more_rows next before after wide rows index loose placed = record {
       narrow = is.narrow;
@@ -167,7 +167,7 @@ module _ (words : ℕ) (store : Table) (places : List ℕ) (is : AreRows words s
             (subst (IsPlaced before after (home_of before (row_words words p))) (sym count) placed) (homed_below (length before) (hash_of (row_words words p)) (omega (arith, loose)) (hash_below (row_words words p)))
 
     -- what `push` writes
-    module _ (other next : Table) (wide : other.wide ≡ store.wide) (rows : other.rows ≡ store.rows) (numbers : List ℕ) (long : length numbers ≡ 10) (made : take (2 * words) numbers ≡ row_words words p) (link step : ℕ)
+    module _ (other next : StoredRows) (wide : other.wide ≡ store.wide) (rows : other.rows ≡ store.rows) (numbers : List ℕ) (long : length numbers ≡ 10) (made : take (2 * words) numbers ≡ row_words words p) (link step : ℕ)
         (link_is : link ≡ link_number head) (step_is : step ≡ step_number head.step) (next_is : next ≡ with_rows other (other.rows ++ take (2 * words + 2) (set (set numbers (2 * words) link) (2 * words + 1) step) ∷ [])) where
       row_is_made : take (2 * words + 2) (set (set numbers (2 * words) link) (2 * words + 1) step) ≡ slot_row words fresh
       row_is_made =

@@ -4,7 +4,7 @@ use Rattle.std.proofs.lemmas.List.{length-drop, get_or_append_left, get_or_push,
 use Rattle.std.proofs.lemmas.Bool.{cases_eq, cases_lt}
 use Rattle.std.proofs.Math.Nat.{mul-le-mul_right}
 use Rattle.raw_chunk.specs.Numbers.{Numbers, with_items}
-use Rattle.position_arena.specs.Stores.{Table, with_rows, row_at, values_below, no_chunk, laid_row}
+use Rattle.position_arena.specs.Stores.{StoredRows, with_rows, row_at, values_below, no_chunk, laid_row}
 use Rattle.position_arena.specs.StoreInside.{rows_in, IsLaid, AreLaid}
 
 -- ---- the values of a function at the numbers below n
@@ -255,10 +255,10 @@ module _ (wide n : ℕ) (chunks : List Numbers) (is : AreLaid wide n chunks) whe
 
 -- ---- the same, as a contract sees it
 
-abbrev pub table : ℕ → ℕ → List Numbers → Table
+abbrev pub table : ℕ → ℕ → List Numbers → StoredRows
 table wide n chunks = record { wide = wide; room = 4096 * length chunks; rows = values_below (laid_row wide chunks) n }
 
-module _ (wide n : ℕ) (chunks : List Numbers) (is : AreLaid wide n chunks) (t : Table) (seen : table wide n chunks ≡ t) where
+module _ (wide n : ℕ) (chunks : List Numbers) (is : AreLaid wide n chunks) (t : StoredRows) (seen : table wide n chunks ≡ t) where
   pub seen_len : length t.rows ≡ n
   seen_len = ap (λ t. length t.rows) (sym seen) ∙ length-values_below (laid_row wide chunks) n
 
@@ -297,7 +297,7 @@ module _ (wide n : ℕ) (chunks : List Numbers) (is : AreLaid wide n chunks) (t 
             room = 4096 * length-set chunks (n / 4096) (with_items (get_or chunks (n / 4096) no_chunk) ((get_or chunks (n / 4096) no_chunk).items ++ row)) i;
             rows = pushed_rows wide n chunks is (has_room room) row (size ∙ seen_wide) i;
           })
-          ∙ ap (λ (t : Table). with_rows t (t.rows ++ row ∷ [])) seen
+          ∙ ap (λ (t : StoredRows). with_rows t (t.rows ++ row ∷ [])) seen
 
   -- a row
   module _ (k : ℕ) (h : k < length t.rows) where
@@ -341,7 +341,7 @@ module _ (wide n : ℕ) (chunks : List Numbers) (is : AreLaid wide n chunks) (t 
               rows = set_rows wide n chunks is k at x y (has_row k h) in_wide i;
             })
             ∙ ap (λ row. with_rows (table wide n chunks) (set (values_below (laid_row wide chunks) n) k (set_two row at x y))) (sym (get_or-values_below (laid_row wide chunks) n k [] (has_row k h)))
-            ∙ ap (λ (t : Table). with_rows t (set t.rows k (set_two (row_at t k) at x y))) seen
+            ∙ ap (λ (t : StoredRows). with_rows t (set t.rows k (set_two (row_at t k) at x y))) seen
 
 pub new_table : (wide : ℕ) → table wide 0 [] ≡ record { wide = wide; room = 0; rows = [] }
 unfolding values_below

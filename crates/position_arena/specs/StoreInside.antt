@@ -1,12 +1,12 @@
 -- How the fields of `Store` stand for its rows.
 use Rattle.std.specs.Prelude.{◌≡◌, ℕ, ◌+◌, ◌-◌, ◌*◌, ◌<◌, ◌≤◌, min, List, length, slice_index_or}
 use Rattle.raw_chunk.specs.Numbers.{Numbers}
-use Rattle.position_arena.specs.Stores.{Table, values_below, no_chunk, laid_row}
+use Rattle.position_arena.specs.Stores.{StoredRows, values_below, no_chunk, laid_row}
 use Rattle.position_arena.specs.declared.store.Store.TheInside.{Inside}
 
 -- the rows that the chunks hold
-abbrev pub table_of : Inside → Table
-table_of a = record { wide = a.wide; room = 4096 * length a.chunks.items; rows = values_below (laid_row a.wide a.chunks.items) a.len }
+abbrev pub stored_rows : Inside → StoredRows
+stored_rows a = record { wide = a.wide; room = 4096 * length a.chunks.items; rows = values_below (laid_row a.wide a.chunks.items) a.len }
 
 -- how many of n rows lie in chunk c
 abbrev pub rows_in : ℕ → ℕ → ℕ

@@ -3,17 +3,17 @@ use Rattle.std.specs.Prelude.{ℕ, ◌*◌, ◌/◌, ◌%◌, zero, suc, List, [
 use Rattle.raw_chunk.specs.Numbers.{Numbers}
 
 -- rows of `wide` numbers each, in memory that has room for `room` rows
-pub record Table : Type 0 where
+pub record StoredRows : Type 0 where
   pub wide : ℕ
   pub room : ℕ
   pub rows : List (List ℕ)
 
 -- the same with other rows
-abbrev pub with_rows : Table → List (List ℕ) → Table
+abbrev pub with_rows : StoredRows → List (List ℕ) → StoredRows
 with_rows t rows = record { wide = t.wide; room = t.room; rows = rows }
 
 -- row k
-abbrev pub row_at : Table → ℕ → List ℕ
+abbrev pub row_at : StoredRows → ℕ → List ℕ
 row_at t k = slice_index_or t.rows k []
 
 -- the values of f at the numbers below n

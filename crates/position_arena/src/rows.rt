@@ -1,4 +1,4 @@
-//! Rows of positions, each with its head.
+//! Positions, each with its head, in rows of numbers.
 ghost use Rattle.std.specs.Prelude.{◌≡◌, ℕ, ◌+◌, ◌*◌, ◌^◌, ◌<◌, ◌≤◌, [], ◌∷◌, ◌++◌, length, take, slice_index, IfOk, OnOk, OnErr, MatchOption, IsTrue, ◌↔◌};
 ghost use Rattle.comp_graph.specs.Vertices.{AllBelow};
 ghost use Rattle.comp_graph.specs.Words.{set_of_words};
@@ -15,8 +15,8 @@ use pebble_rules::Position;
 use std::alloc::{AllocError, Global};
 use std::marker::Model;
 
-/// What is kept of the play that leads to a position: its cost, the place of the row that its last step comes from, and that step. Rows
-/// hold these numbers and read nothing into them.
+/// What is kept of the play that leads to a position: its cost, the place of the position that its last step comes from, and that step.
+/// `Positions` holds these numbers and reads nothing into them.
 #[derive(Clone, Copy, Debug, PartialEq, Eq)]
 pub struct Head {
     pub cost: u32,
@@ -24,21 +24,21 @@ pub struct Head {
     pub step: Step,
 }
 
-/// The positions of a search in the order of pushing, each with its head. Contracts see the list of them, so row k is the k-th that was
-/// pushed, with the head that was set last.
+/// The positions of a search in the order of pushing, each with its head. Contracts see the list of them, so position k is the k-th that
+/// was pushed, with the head that was set last.
 ///
-/// A row is `2 * words + 2` numbers of 64 bits in a chunk of 4,096 rows: the red words, the blue words, the cost plus 2^32 times the parent,
-/// and the step as a number. It is written once, and lies where it was written until all rows are dropped. No contract says so, nor that the
-/// index is hashed. Only `push` takes memory.
+/// A position is kept as a row of `2 * words + 2` numbers of 64 bits in a chunk of 4,096 rows: the red words, the blue words, the cost plus
+/// 2^32 times the parent, and the step as a number. The row is written once, and lies where it was written until all are dropped. No
+/// contract says so, nor that the index is hashed. Only `push` takes memory.
 #[derive(Drop)]
-pub struct Rows {
+pub struct Positions {
     alloc: Global,
     words: u8,
     store: Store,
     places: Vec<u32>,
 }
 
-impl Model for Rows {
+impl Model for Positions {
     ghost use Rattle.std.specs.Coded.{codes};
     ghost use Rattle.comp_graph.specs.contracts.vertex_set.VertexSet as vertex_set;
     ghost use Rattle.position_arena.specs.Arenas.{Arena};
@@ -183,13 +183,13 @@ fn reserve(
     Ok(())
 }
 
-impl Rows {
-    /// No rows, for positions with vertices below 64 times `words`, which is at most 4. It takes no memory.
-    pub fn new(alloc: Global, words: u8) -> Rows
+impl Positions {
+    /// No positions, for those with vertices below 64 times `words`, which is at most 4. It takes no memory.
+    pub fn new(alloc: Global, words: u8) -> Positions
         requires { words ≤ 4 }
         ensures { result ≡ record { words = words; slots = [] } }
     {
-        Rows {
+        Positions {
             alloc,
             words,
             store: Store::new(alloc, 2 * words as usize + 2),
@@ -204,7 +204,7 @@ impl Rows {
         fits(self.words, p)
     }
 
-    /// The place of the row with this position. None exactly where no row has it, also where it does not fit.
+    /// The place of this position. None exactly where it was not pushed, also where it does not fit.
     pub fn find(&self, p: &Position) -> Option<u32>
         ensures { MatchOption result (IsAbsent self.now p.now) (IsPlaceOf self.now p.now) }
     {
@@ -215,9 +215,9 @@ impl Rows {
         find(&self.places, &self.store, &key[..2 * self.words as usize])
     }
 
-    /// Appends a row, and answers its place. The position must be in no row yet, as `find` tells, and fit, as `fits` tells, and there must be
-    /// fewer than 4,294,967,295 rows. `NoMemory` comes where there is no memory for a chunk of rows or for the index, which are taken before
-    /// anything is written: rows, heads and all answers of `find` are then as they were.
+    /// Appends a position, and answers its place. It must not be there yet, as `find` tells, and fit, as `fits` tells, and there must be
+    /// fewer than 4,294,967,295 of them. `NoMemory` comes where there is no memory for a chunk of rows or for the index, which are taken
+    /// before anything is written: positions, heads and all answers of `find` are then as they were.
     pub fn push(&mut self, p: &Position, head: Head) -> Result<u32, NoMemory>
         requires absent { IsAbsent self.old p.now }
         requires fits { IsWithinWords self.old.words p.now }
@@ -238,8 +238,8 @@ impl Rows {
         Ok(place)
     }
 
-    /// The red words and then the blue words of row k, lent without a copy: vertex v is bit v mod 64 of word v div 64 of its colour.
-    pub fn row(&self, k: u32) -> &[u64]
+    /// The red words and then the blue words of position k, lent without a copy: vertex v is bit v mod 64 of word v div 64 of its colour.
+    pub fn words_at(&self, k: u32) -> &[u64]
         requires { k < length self.now.slots }
         ensures { result.now ≡ row_words self.now.words (slot_at self.now k).position }
     {
@@ -247,7 +247,7 @@ impl Rows {
         &row[..2 * self.words as usize]
     }
 
-    /// The position of row k.
+    /// Position k.
     pub fn position(&self, k: u32) -> Position
         requires { k < length self.now.slots }
         ensures { result ≡ (slot_at self.now k).position }
@@ -260,7 +260,7 @@ impl Rows {
         }
     }
 
-    /// The head of row k, as it was set last.
+    /// The head of position k, as it was set last.
     pub fn head(&self, k: u32) -> Head
         requires { k < length self.now.slots }
         ensures { result ≡ (slot_at self.now k).head }
@@ -270,7 +270,7 @@ impl Rows {
         head_from(row[width], row[width + 1])
     }
 
-    /// Gives row k another head, and changes nothing else.
+    /// Gives position k another head, and changes nothing else.
     pub fn set_head(&mut self, k: u32, head: Head)
         requires { k < length self.old.slots }
         ensures { self.new ≡ with_head self.old k head }
@@ -280,7 +280,7 @@ impl Rows {
             .set_two(k, width, link_of(head), number_of(head.step));
     }
 
-    /// How many rows there are.
+    /// How many positions there are.
     pub fn len(&self) -> u32
         ensures { result ≡ length self.now.slots }
     {

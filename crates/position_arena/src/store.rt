@@ -19,13 +19,13 @@ pub struct Store {
 }
 
 impl Model for Store {
-    ghost use Rattle.position_arena.specs.Stores.{Table};
+    ghost use Rattle.position_arena.specs.Stores.{StoredRows};
 
-    ghost Value = { Table };
+    ghost Value = { StoredRows };
 
-    ghost use Rattle.position_arena.specs.StoreInside.{table_of, IsStore};
+    ghost use Rattle.position_arena.specs.StoreInside.{stored_rows, IsStore};
 
-    ghost view = { table_of };
+    ghost view = { stored_rows };
 
     ghost invariant = { IsStore };
 }

@@ -9,7 +9,7 @@ use Rattle.byteorder.specs.Endian.{big_number}
 use Rattle.byteorder.specs.Numbers.{big_from-lt}
 use Rattle.comp_graph.specs.Vertices.{Vertices}
 use Rattle.comp_graph.specs.Words.{set_of_words, words_of}
-use Rattle.forced_bounds.specs.Lists.{IsIn}
+use Rattle.comp_graph.specs.Lists.{IsIn}
 use Rattle.potential_cert.specs.declared.tables.Row.{Row}
 use Rattle.potential_cert.specs.Readings.{AreBytes, BeginsWithNumber, BeginsWithWord, BeginsWithSet, BeginsWithRow, BeginsWithRows, BeginsWithNumbers}
 use Rattle.potential_cert.specs.Shapes.{shape_place, is_second, number_at, ShapesAreSpelled, SpelledOrNot}

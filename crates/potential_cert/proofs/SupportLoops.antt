@@ -5,7 +5,7 @@ use Rattle.pebble_rules.specs.Rules.{start}
 use Rattle.normal_steps.specs.Steps.{IsStep, stepped}
 use Rattle.normal_steps.specs.LegalSteps.{AreLegalSteps}
 use Rattle.normal_steps.specs.declared.step.Step.{Step}
-use Rattle.forced_bounds.specs.Lists.{IsIn}
+use Rattle.comp_graph.specs.Lists.{IsIn}
 use Rattle.forced_bounds.specs.Floor.{floor}
 use Rattle.potential_cert.specs.declared.tables.Row.{Row}
 use Rattle.potential_cert.specs.Places.{IsAt}

@@ -7,7 +7,7 @@ use Rattle.potential_cert.specs.Places.{IsAt}
 use Rattle.potential_cert.specs.Table.{TableParts}
 use Rattle.potential_cert.specs.TableBytes.{big_endian, set_bytes, row_bytes, AreWords, IsInRange, CanBeSpelled}
 use Rattle.potential_cert.specs.declared.tables.Row.{Row}
-use Rattle.forced_bounds.specs.Lists.{IsIn}
+use Rattle.comp_graph.specs.Lists.{IsIn}
 
 -- one word more
 pub set_more : (s : Vertices) (k : ℕ) → k < 4 → set_bytes (k + 1) s ≡ set_bytes k s ++ big_endian 8 (word_of s k)

@@ -5,7 +5,7 @@ use Rattle.std.specs.Prelude.{◌≡◌, ℕ, ◌+◌, ◌/◌, ◌*◌, ◌^◌
 use Rattle.std.specs.Int.{bytes_high_first}
 use Rattle.comp_graph.specs.Vertices.{Vertices, AllBelow}
 use Rattle.comp_graph.specs.Words.{words_of}
-use Rattle.forced_bounds.specs.Lists.{IsIn}
+use Rattle.comp_graph.specs.Lists.{IsIn}
 use Rattle.potential_cert.specs.declared.tables.Row.{Row}
 use Rattle.potential_cert.specs.Table.{TableParts}
 

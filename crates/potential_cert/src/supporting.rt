@@ -2,7 +2,7 @@
 ghost use Rattle.std.specs.Prelude.{◌≡◌, ◌≤◌, List};
 ghost use Rattle.comp_graph.specs.Games.{game_of};
 ghost use Rattle.normal_steps.specs.Steps.{IsStep};
-ghost use Rattle.forced_bounds.specs.Lists.{IsIn};
+ghost use Rattle.comp_graph.specs.Lists.{IsIn};
 ghost use Rattle.potential_cert.specs.Order.{precedes};
 ghost use Rattle.potential_cert.specs.Table.{IsRising, IsSupport};
 ghost use Rattle.potential_cert.specs.Offers.{IsWithOffersOfStep, IsWithOffersOfRow};

@@ -10,7 +10,7 @@ use Rattle.comp_graph.specs.declared.node.Operand.{Operand}
 use Rattle.comp_graph.specs.declared.node.Operand.TheVariants.{Vertex, Const}
 use Rattle.comp_graph.specs.declared.node.Node.{Node}
 use Rattle.comp_graph.specs.Graphs.{GraphParts, IsGraph, operands_of, IsOperandBelow}
-use Rattle.scratch_machine.specs.Machines.{value_at}
+use Rattle.comp_graph.specs.Operations.{value_at}
 use Rattle.scratch_machine.specs.Values.{AreValues, operand_value, ValuesExist}
 use Rattle.scratch_machine.specs.CodePlays.{CodesRun}
 use Rattle.scratch_machine.proofs.Runs.{code_computes_outputs}

@@ -6,10 +6,11 @@ use Rattle.comp_graph.specs.declared.operation.Op.TheVariants.{Input}
 use Rattle.comp_graph.specs.declared.node.Operand.{Operand}
 use Rattle.comp_graph.specs.declared.node.Operand.TheVariants.{Vertex, Const as Constant}
 use Rattle.comp_graph.specs.declared.node.Output.{Output}
-use Rattle.comp_graph.specs.Operations.{arity_of}
+use Rattle.comp_graph.specs.Operations.{arity_of, value_at}
 use Rattle.comp_graph.specs.Graphs.{GraphParts, operands_of}
 use Rattle.pebble_rules.specs.declared.moves.Move.{Move}
 use Rattle.pebble_rules.specs.declared.moves.Move.TheVariants.{Load as LoadMove, Store as StoreMove, Compute, DropRed, DropBlue}
+use Rattle.pebble_rules.specs.Transfers.{loads, stores}
 use Rattle.scratch_machine.specs.declared.code.Source.{Source}
 use Rattle.scratch_machine.specs.declared.code.Source.TheVariants.{Slot, Const}
 use Rattle.scratch_machine.specs.declared.code.Instr.{Instr}
@@ -17,9 +18,9 @@ use Rattle.scratch_machine.specs.declared.code.Instr.TheVariants.{Load, Store, A
 use Rattle.scratch_machine.specs.declared.code.OutWord.{OutWord}
 use Rattle.scratch_machine.specs.Cells.{Cells, put, cleared}
 use Rattle.scratch_machine.specs.Codes.{IsInstr}
-use Rattle.scratch_machine.specs.Machines.{Machine, value_read, values_read, value_at, loaded, stored, applied, and_then, run_from, outputs_read, begun}
+use Rattle.scratch_machine.specs.Machines.{Machine, value_read, values_read, loaded, stored, applied, and_then, run_from, outputs_read, begun}
 use Rattle.scratch_machine.specs.Values.{AreValues, operand_value, output_values}
-use Rattle.scratch_machine.specs.CodePlays.{Places, Names, NamesAll, with_slot, with_word, without_slot, Plays, first_places, HasOutputs, loads, stores, CodeComputesOutputs}
+use Rattle.scratch_machine.specs.CodePlays.{Places, Names, NamesAll, with_slot, with_word, without_slot, Plays, first_places, HasOutputs, CodeComputesOutputs}
 
 -- what is said to hold a vertex holds its value
 abbrev Holds : (ℕ → ℤ) → Cells ℕ → Cells ℤ → Type 0

@@ -1,6 +1,6 @@
 -- A code plays a list of moves on a graph where both lists can be gone through together: what each move needs of its instruction,
 -- which vertex each slot and word then has, and the law that such a code computes the graph's outputs.
-use Rattle.std.specs.Prelude.{◌≡◌, ℕ, ◌+◌, None, Some, cond, nat_lt, Ok, ℤ, List, [], ◌∷◌, length, take, slice_get, ⊤}
+use Rattle.std.specs.Prelude.{◌≡◌, ℕ, None, Some, cond, nat_lt, Ok, ℤ, List, [], ◌∷◌, length, take, slice_get, ⊤}
 use Rattle.comp_graph.specs.declared.operation.Op.{Op}
 use Rattle.comp_graph.specs.declared.node.Operand.{Operand}
 use Rattle.comp_graph.specs.declared.node.Operand.TheVariants.{Vertex, Const as Constant}
@@ -10,6 +10,7 @@ use Rattle.comp_graph.specs.Operations.{arity_of}
 use Rattle.comp_graph.specs.Graphs.{GraphParts, IsGraph, operands_of}
 use Rattle.pebble_rules.specs.declared.moves.Move.{Move}
 use Rattle.pebble_rules.specs.declared.moves.Move.TheVariants.{Load as LoadMove, Store as StoreMove, Compute, DropRed, DropBlue}
+use Rattle.pebble_rules.specs.Transfers.{loads, stores}
 use Rattle.scratch_machine.specs.declared.code.Source.{Source}
 use Rattle.scratch_machine.specs.declared.code.Source.TheVariants.{Slot, Const}
 use Rattle.scratch_machine.specs.declared.code.Instr.{Instr}
@@ -102,18 +103,6 @@ pub record CodePlays (g : GraphParts) (c : CodeParts) (ms : List Move) : Type 0 
   pub last : Places
   pub plays : Plays g (first_places g) ms c.instructions last
   pub outputs : HasOutputs last g.outputs c.outputs
-
--- how many moves load
-abbrev pub loads : List Move → ℕ
-loads [] = 0
-loads (LoadMove v ∷ ms) = loads ms + 1
-loads (_ ∷ ms) = loads ms
-
--- how many moves store
-abbrev pub stores : List Move → ℕ
-stores [] = 0
-stores (StoreMove v ∷ ms) = stores ms + 1
-stores (_ ∷ ms) = stores ms
 
 -- a code that plays a list of moves gives the output values on every input, with exactly the loads and stores of the moves
 abbrev pub CodeComputesOutputs : Type 0

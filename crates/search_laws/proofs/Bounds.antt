@@ -2,7 +2,7 @@
 use Rattle.std.proofs.Common.{Bool, false, cond, ltb, length, length-append, zero, suc, ◌-◌, ◌≡◌, ℕ, ◌+◌, ◌≤◌, ◌<◌, true, ◌⊎◌, inl, inr, refl, sym, ap, ◌∙◌, subst, arith, List, [], ◌∷◌, ◌++◌, ◌↔◌}
 use Rattle.pebble_rules.proofs.Possible.{true_or_false}
 use Rattle.search_laws.proofs.Queues.{decide}
-use Rattle.forced_bounds.specs.Lists.{IsIn}
+use Rattle.comp_graph.specs.Lists.{IsIn}
 use Rattle.comp_graph.specs.Games.{PebbleGame}
 use Rattle.comp_graph.specs.Dags.{IsDag}
 use Rattle.pebble_rules.specs.Rules.{start}

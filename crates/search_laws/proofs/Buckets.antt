@@ -1,7 +1,7 @@
 -- The next entry by buckets.
 use Rattle.std.proofs.Common.{◌≡◌, ℕ, ◌≤◌, ◌<◌, ◌==◌, ltb, Bool, true, false, not, ◌&&◌, List, [], ◌∷◌, ◌++◌, cond, ◌⊎◌, inl, inr, refl, sym, ap, ◌∙◌, subst, arith}
 use Rattle.std.specs.Prelude.{filter, Option, Some, None}
-use Rattle.forced_bounds.specs.Lists.{IsIn}
+use Rattle.comp_graph.specs.Lists.{IsIn}
 use Rattle.search_laws.specs.Search.{Mark, Entry, is_waiting, next_waiting, sooner, marked_at, without}
 use Rattle.pebble_rules.specs.declared.position.Position.{Position}
 use Rattle.search_laws.specs.Steps.{same_position}

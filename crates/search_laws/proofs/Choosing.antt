@@ -6,10 +6,10 @@ use Rattle.comp_graph.specs.Dags.{IsDag}
 use Rattle.pebble_rules.specs.declared.position.Position.{Position}
 use Rattle.normal_steps.specs.declared.step.Step.{Step}
 use Rattle.comp_graph.proofs.DagLaws.{both}
-use Rattle.forced_bounds.specs.Lists.{IsIn}
+use Rattle.comp_graph.specs.Lists.{IsIn}
 use Rattle.forced_bounds.specs.Floor.{floor}
 use Rattle.normal_steps.specs.StepTests.{can_finish}
-use Rattle.search_laws.specs.Search.{Mark, waiting, expanded, given_up, is_waiting, is_expanded, Entry, Search, next_waiting, opened, is_beaten, give_up, rows_of}
+use Rattle.search_laws.specs.Search.{Mark, waiting, expanded, given_up, is_waiting, is_expanded, Entry, Search, next_waiting, becomes_row, is_beaten, give_up, rows_of}
 use Rattle.search_laws.specs.Standing.{IsKept, IsNext, row_of}
 use Rattle.search_laws.proofs.Tests.{true_leb}
 use Rattle.search_laws.proofs.Entries.{NoneWaits, NextCases, next_cases, in_rows}
@@ -120,7 +120,7 @@ module _ (s u : Store) (b : Best) (c k : ℕ) (popped : IsPopped s u c k) (befor
         within = subst (λ n. k < n) (sym marked.size) k_within;
         is_row = ap (λ p. is_expanded p.mark) marked.here;
         search = t;
-        packs = subst (λ e. Packs g first u b plays (opened e t)) same (next_marked g first s u b plays t packs c k popped expanded marked refl live);
+        packs = subst (λ e. Packs g first u b plays (becomes_row e t)) same (next_marked g first s u b plays t packs c k popped expanded marked refl live);
         kept = kept;
         settles = settle_unbeaten g (length t.entries) t e is_next why;
         next = subst (IsNext t.entries) same next;
@@ -189,5 +189,5 @@ is_expanding s u b k g dag most first plays t has = record {
   within = has.within;
   is_row = has.is_row;
   rows_below = λ j h row.
-      rows_below g dag most has.search has.kept (next_entry u plays k) has.next (row_of (entry_at u plays j)) (in_rows (entry_at u plays j) (opened (next_entry u plays k) has.search).entries (has.packs.placed j h) row);
+      rows_below g dag most has.search has.kept (next_entry u plays k) has.next (row_of (entry_at u plays j)) (in_rows (entry_at u plays j) (becomes_row (next_entry u plays k) has.search).entries (has.packs.placed j h) row);
 }

@@ -2,20 +2,18 @@
 use Rattle.std.proofs.Common.{◌≡◌, ℕ, zero, suc, ◌+◌, ◌-◌, ◌*◌, ◌^◌, ◌≤◌, ◌<◌, Bool, true, false, List, [], ◌∷◌, length, cond, ◌⊎◌, inl, inr, refl, sym, ap, ◌∙◌, subst, arith}
 use Rattle.std.proofs.Math.Nat.{pow-succ'}
 use Rattle.std.specs.FinSet.{empty, contains, insert}
-use Rattle.comp_graph.specs.Vertices.{Vertices, ◌∈◌, ◌∉◌, IsWithin, size}
+use Rattle.comp_graph.specs.Vertices.{Vertices, ◌∈◌, ◌∉◌, IsWithin, set_below, size}
 use Rattle.comp_graph.specs.Games.{PebbleGame}
 use Rattle.comp_graph.specs.Dags.{IsDag}
 use Rattle.pebble_rules.specs.declared.position.Position.{Position}
 use Rattle.normal_steps.specs.Steps.{CanFinish}
 use Rattle.normal_steps.specs.Sound.{IsSound}
 use Rattle.comp_graph.specs.Sets.{membership, same}
-use Rattle.comp_graph.proofs.Sets.{size_empty, size_insert_new, size_within, insert_cases}
+use Rattle.comp_graph.proofs.Sets.{size_empty, size_insert_new, size_within, insert_cases, in_set_below, set_below_parts}
 use Rattle.comp_graph.proofs.Rising.{cut, cut_all, has_cut}
 use Rattle.pebble_rules.proofs.Possible.{not_member}
-use Rattle.forced_bounds.specs.Lists.{IsIn}
-use Rattle.forced_bounds.specs.Floor.{vertices_where}
+use Rattle.comp_graph.specs.Lists.{IsIn}
 use Rattle.forced_bounds.specs.FloorLaws.{FloorOfFinish}
-use Rattle.forced_bounds.proofs.Where.{in_where, where_below}
 use Rattle.potential_cert.specs.declared.tables.Row.{Row}
 use Rattle.potential_cert.specs.Table.{AreDistinct}
 use Rattle.search_laws.specs.Search.{searched, rows_searched}
@@ -169,20 +167,21 @@ has_codes g (r ∷ rows) distinct sound = more (has_codes g rows distinct.1 (λ 
           ];
         }
 
-numbers_below : (n : ℕ) → size (vertices_where n (λ _. true)) ≡ n
+numbers_below : (n : ℕ) → size (set_below (λ _. true) n) ≡ n
+unfolding set_below
 numbers_below zero = size_empty
 numbers_below (suc n) =
     let before = numbers_below n in
-    let one = size_insert_new (vertices_where n (λ _. true)) n (not_member _ (λ h. let less = where_below n (λ _. true) n h in omega arith)) in
+    let one = size_insert_new (set_below (λ _. true) n) n (not_member _ (λ h. let less = (set_below_parts n (λ _. true) n h).0 in omega arith)) in
     omega arith
 
 pub few_positions : (g : PebbleGame) → IsDag g.dag → (rows : List Row) → AreDistinct rows → ((r : Row) → IsIn r rows → IsSound g r.position) → length rows ≤ 2 ^ (2 * g.dag.count - size g.dag.inputs)
 few_positions g dag rows distinct sound =
     let has = has_codes g rows distinct sound in
-    let within : IsWithin has.codes (vertices_where (2 ^ digits g g.dag.count) (λ _. true)) = λ c i.
+    let within : IsWithin has.codes (set_below (λ _. true) (2 ^ digits g g.dag.count)) = λ c i.
     let r = has.from c i in
     let small = code_small g r.0.position g.dag.count in
-    in_where (2 ^ digits g g.dag.count) (λ _. true) c (subst (λ c. c < 2 ^ digits g g.dag.count) (sym r.2) small) refl in
+    in_set_below (2 ^ digits g g.dag.count) (λ _. true) c (subst (λ c. c < 2 ^ digits g g.dag.count) (sym r.2) small) refl in
     let few = size_within _ _ within in
     let all = numbers_below (2 ^ digits g g.dag.count) in
     let many = has.many in
@@ -192,18 +191,18 @@ few_positions g dag rows distinct sound =
 -- ---- the position in which each vertex is blue
 
 abbrev all_blue : PebbleGame → Position
-all_blue g = record { red = empty; blue = vertices_where g.dag.count (λ _. true) }
+all_blue g = record { red = empty; blue = set_below (λ _. true) g.dag.count }
 
 all_blue_sound : (g : PebbleGame) → IsDag g.dag → IsSound g (all_blue g)
 all_blue_sound g dag = record {
   red_below = λ v h. absurd (grind (arith, membership));
-  blue_below = λ v h. where_below g.dag.count (λ _. true) v h;
-  inputs_blue = λ v h. in_where g.dag.count (λ _. true) v (dag.inputs_are_vertices v h) refl;
+  blue_below = λ v h. (set_below_parts g.dag.count (λ _. true) v h).0;
+  inputs_blue = λ v h. in_set_below g.dag.count (λ _. true) v (dag.inputs_are_vertices v h) refl;
   fits = let none = size_empty in omega arith;
 }
 
 all_blue_finishes : (g : PebbleGame) → IsDag g.dag → CanFinish g (all_blue g)
-all_blue_finishes g dag v out = let blue = in_where g.dag.count (λ _. true) v (dag.outputs_are_vertices v out) refl in grind (arith, membership)
+all_blue_finishes g dag v out = let blue = in_set_below g.dag.count (λ _. true) v (dag.outputs_are_vertices v out) refl in grind (arith, membership)
 
 -- positions of which none can finish are fewer
 pub fewer_unfinished : (g : PebbleGame) → IsDag g.dag → (rows : List Row) → AreDistinct rows → ((r : Row) → IsIn r rows → IsSound g r.position)

@@ -10,7 +10,7 @@ use Rattle.normal_steps.specs.declared.step.Step.{Step}
 use Rattle.comp_graph.proofs.DagLaws.{both, either, and-true}
 use Rattle.pebble_rules.proofs.Possible.{not_member, true_or_false}
 use Rattle.normal_steps.proofs.Simulation.{append_after, append_play, append_cost}
-use Rattle.forced_bounds.specs.Lists.{IsIn}
+use Rattle.comp_graph.specs.Lists.{IsIn}
 use Rattle.forced_bounds.specs.Floor.{floor}
 use Rattle.forced_bounds.specs.FloorLaws.{FloorOfFinish}
 use Rattle.forced_bounds.proofs.Paths.{not_true, true_not}
@@ -19,7 +19,7 @@ use Rattle.potential_cert.specs.Table.{offer}
 use Rattle.normal_steps.specs.StepTests.{can_finish}
 use Rattle.search_laws.specs.Steps.{same_position}
 use Rattle.search_laws.specs.Search.{waiting, is_waiting, is_expanded, Entry, Search, has_within, without, tried, step_tried, rows_of}
-use Rattle.search_laws.specs.Standing.{HasEntryWithin, IsKept, IsPlayed, IsSettled, row_of, start_row}
+use Rattle.search_laws.specs.Standing.{HasEntryWithin, IsKept, IsReachedBy, IsSettled, row_of, start_row}
 use Rattle.search_laws.proofs.Lists.{filter_in, in_filter, append_cases, in_left, in_right, any_in, in_any}
 use Rattle.search_laws.proofs.Tests.{same_position_true, true_same_position, can_finish_true, true_can_finish, leb_true}
 use Rattle.search_laws.proofs.Entries.{apart_push, apart_filter, in_rows, rows_push, NoRowAt, rows_without}
@@ -41,7 +41,7 @@ false_or false b h = (refl, h)
 leb_false : (a b : ℕ) → leb a b ≡ false → b < a
 leb_false a b h = grind arith
 
-module _ (ends : FloorOfFinish) (g : PebbleGame) (dag : IsDag g.dag) (first : ℕ) (q : Position) (h : ℕ) (play : List Step) (is : IsPlayed g q h play) (t : Search) (kept : IsKept g first t)
+module _ (ends : FloorOfFinish) (g : PebbleGame) (dag : IsDag g.dag) (first : ℕ) (q : Position) (h : ℕ) (play : List Step) (is : IsReachedBy g q h play) (t : Search) (kept : IsKept g first t)
     (rows_below : (r : Row) → IsIn r (rows_of t.entries) → r.cost ≤ h) (started : IsIn (start_row g) (rows_of t.entries)) where
   passed : (leb t.cost (h + floor g q) || has_within t.entries q h) ≡ true → IsTried g first t q h t
   passed why = record {
@@ -132,7 +132,7 @@ module _ (ends : FloorOfFinish) (g : PebbleGame) (dag : IsDag g.dag) (first : �
           finishing = kept.finishing;
           costs = kept.costs;
           no_more = kept.no_more;
-          played = each (λ e. IsPlayed g e.position e.cost e.play) kept.played is;
+          played = each (λ e. IsReachedBy g e.position e.cost e.play) kept.played is;
           unfinished = each (λ e. CanFinish g e.position → ⊥) kept.unfinished (λ finish. let can = true_can_finish g q finish in grind arith);
           apart = apart_push (without t.entries q) new_entry (apart_filter elsewhere t.entries kept.apart)
               (λ f i same. let is = filter_in elsewhere f t.entries i in let yes_same = true_same_position f.position q same in let apart = not_true _ is.1 in grind arith);
@@ -178,7 +178,7 @@ pub record AreTried (g : PebbleGame) (first : ℕ) (e : Entry) (t : Search) (ss 
   pub stay : (p : Position) (c : ℕ) → HasEntryWithin t.entries p c → HasEntryWithin u.entries p c
   pub settled : (s : Step) → IsIn s ss → IsSettled g u (row_of e) s
 
-pub play_push : (g : PebbleGame) (p : Position) (c : ℕ) (ss : List Step) (s : Step) → IsPlayed g p c ss → IsStep g p s → IsPlayed g (stepped g p s) (c + step_cost g p s) (ss ++ s ∷ [])
+pub play_push : (g : PebbleGame) (p : Position) (c : ℕ) (ss : List Step) (s : Step) → IsReachedBy g p c ss → IsStep g p s → IsReachedBy g (stepped g p s) (c + step_cost g p s) (ss ++ s ∷ [])
 play_push g p c ss s is step = record {
   play = append_play g (start g) ss (s ∷ []) is.play (subst (λ p. IsStep g p s) (sym is.ends) step, tt);
   ends = append_after g (start g) ss (s ∷ []) ∙ ap (λ p. stepped g p s) is.ends;
@@ -189,7 +189,7 @@ play_push g p c ss s is step = record {
       omega arith;
 }
 
-pub all_tried : FloorOfFinish → (g : PebbleGame) → IsDag g.dag → (first : ℕ) (e : Entry) → IsPlayed g e.position e.cost e.play
+pub all_tried : FloorOfFinish → (g : PebbleGame) → IsDag g.dag → (first : ℕ) (e : Entry) → IsReachedBy g e.position e.cost e.play
     → (ss : List Step) → ((s : Step) → IsIn s ss → IsStep g e.position s)
     → (t : Search) → IsKept g first t → ((r : Row) → IsIn r (rows_of t.entries) → r.cost ≤ e.cost) → IsIn (start_row g) (rows_of t.entries)
     → AreTried g first e t ss (fold (step_tried g e) t ss)

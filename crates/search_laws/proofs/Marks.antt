@@ -10,11 +10,11 @@ use Rattle.normal_steps.specs.Steps.{stepped, step_cost, finish_cost}
 use Rattle.normal_steps.specs.declared.step.Step.{Step}
 use Rattle.pebble_rules.proofs.Possible.{true_or_false}
 use Rattle.comp_graph.proofs.DagLaws.{both, and-true}
-use Rattle.forced_bounds.specs.Lists.{IsIn}
+use Rattle.comp_graph.specs.Lists.{IsIn}
 use Rattle.forced_bounds.specs.Floor.{floor}
 use Rattle.search_laws.specs.Steps.{same_position}
 use Rattle.normal_steps.specs.StepTests.{can_finish}
-use Rattle.search_laws.specs.Search.{Mark, waiting, expanded, given_up, is_waiting, is_expanded, Entry, Search, next_waiting, marked_at, has_within, without, tried, opened, is_beaten, give_up}
+use Rattle.search_laws.specs.Search.{Mark, waiting, expanded, given_up, is_waiting, is_expanded, Entry, Search, next_waiting, marked_at, has_within, without, tried, becomes_row, is_beaten, give_up}
 use Rattle.search_laws.specs.Buckets.{bucket}
 use Rattle.search_laws.specs.Standing.{IsNext}
 use Rattle.search_laws.proofs.Lists.{in_left, in_right, append_cases, in_map, map_in, filter_in, in_filter, any_in, in_any}

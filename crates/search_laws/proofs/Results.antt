@@ -13,7 +13,7 @@ use Rattle.comp_graph.proofs.Sets.{size_empty}
 use Rattle.pebble_rules.proofs.Possible.{true_or_false}
 use Rattle.comp_graph.proofs.DagLaws.{live_by_paths}
 use Rattle.pebble_rules.proofs.FirstBound.{path_to_no_input}
-use Rattle.forced_bounds.specs.Lists.{IsIn}
+use Rattle.comp_graph.specs.Lists.{IsIn}
 use Rattle.forced_bounds.specs.Floor.{floor}
 use Rattle.forced_bounds.specs.FloorLaws.{FloorOfFinish}
 use Rattle.potential_cert.specs.declared.tables.Row.{Row}
@@ -22,7 +22,7 @@ use Rattle.potential_cert.specs.TableLaws.{HaveSameMembers, BoundIsBelowPebbling
 use Rattle.potential_cert.proofs.SupportLaws.{support_ignores_order}
 use Rattle.search_laws.specs.Search.{is_waiting, is_expanded, Entry, Search, first_entry, begun, next_waiting, expand, search_on, searched, rows_of, rows_searched}
 use Rattle.search_laws.specs.SearchLaws.{PlanIsNoWorse, RowsAreReached, RowsAreMadeInOrder, SearchedTableIsValid, SupportIsHigh, FewRowsAreOptimal, OpenFillsBudget, SupportIsBelowPebblings}
-use Rattle.search_laws.specs.Standing.{IsFresh, IsNext, IsPlayed, IsSettled, Stands, row_of, start_row}
+use Rattle.search_laws.specs.Standing.{IsFresh, IsNext, IsReachedBy, IsSettled, Stands, row_of, start_row}
 use Rattle.search_laws.proofs.Tests.{ltb_true}
 use Rattle.search_laws.proofs.Entries.{NoneWaits, apart_same, rows_in, in_rows, rows_apart}
 use Rattle.search_laws.proofs.Turns.{played_sound, HasExpanded, has_expanded, settled_of, settles, HasSearched, search_stops, search_goes, search_ends, has_searched, settle_still, nothing_next_waits}
@@ -70,7 +70,7 @@ begun_by g dag plan finishing true h = record {
     finishing = finishing;
     costs = refl;
     no_more = omega arith;
-    played = λ e i. subst (λ e. IsPlayed g e.position e.cost e.play) (sym (only e i)) (record { play = tt; ends = refl; costs = refl });
+    played = λ e i. subst (λ e. IsReachedBy g e.position e.cost e.play) (sym (only e i)) (record { play = tt; ends = refl; costs = refl });
     unfinished = λ e i finish.
         let nothing = nothing_to_pay g dag (subst (λ e. CanFinish g e.position) (only e i) finish) plan finishing in
         let less = ltb_true _ _ h in
@@ -121,10 +121,10 @@ plan_is_no_worse ends g dag plan finishing budget =
     record { finishing = kept.finishing; costs = kept.costs; no_more = kept.no_more }
 
 module _ (g : PebbleGame) (dag : IsDag g.dag) (first : ℕ) (t : Search) (stands : Stands g first t) where
-  pub row_reached : (r : Row) → IsIn r (rows_of t.entries) → (ss : List Step) × IsPlayed g r.position r.cost ss
+  pub row_reached : (r : Row) → IsIn r (rows_of t.entries) → (ss : List Step) × IsReachedBy g r.position r.cost ss
   row_reached r i =
       let e = rows_in r t.entries i in
-      (e.0.play, subst (λ r. IsPlayed g r.position r.cost e.0.play) (sym e.3) (stands.kept.played e.0 e.1))
+      (e.0.play, subst (λ r. IsReachedBy g r.position r.cost e.0.play) (sym e.3) (stands.kept.played e.0 e.1))
 
   pub row_unfinished : (r : Row) → IsIn r (rows_of t.entries) → CanFinish g r.position → ⊥
   row_unfinished r i finish =

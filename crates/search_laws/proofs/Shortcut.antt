@@ -8,19 +8,19 @@ use Rattle.pebble_rules.specs.Rules.{start}
 use Rattle.normal_steps.specs.Steps.{IsStep, stepped, step_cost, finish_cost, CanFinish, IsFinishing, total_cost}
 use Rattle.normal_steps.specs.declared.step.Step.{Step}
 use Rattle.pebble_rules.proofs.Possible.{true_or_false}
-use Rattle.forced_bounds.specs.Lists.{IsIn}
+use Rattle.comp_graph.specs.Lists.{IsIn}
 use Rattle.forced_bounds.specs.Floor.{floor}
 use Rattle.forced_bounds.specs.FloorLaws.{FloorOfFinish}
 use Rattle.potential_cert.specs.declared.tables.Row.{Row}
 use Rattle.potential_cert.specs.Table.{HasRow, offer, IsLeaving, IsSupport}
 use Rattle.normal_steps.specs.StepTests.{can_finish, legal_steps}
-use Rattle.search_laws.specs.Search.{Mark, waiting, expanded, given_up, is_waiting, is_expanded, Entry, Search, first_entry, begun, next_waiting, marked_at, has_within, without, tried, step_tried, opened, expand, is_beaten, give_up, if_next, settle, search_on, searched, rows_of, rows_searched}
-use Rattle.search_laws.specs.Standing.{HasEntryWithin, IsFresh, IsKept, IsNext, IsPlayed, IsSettled, Stands, row_of, start_row}
+use Rattle.search_laws.specs.Search.{Mark, waiting, expanded, given_up, is_waiting, is_expanded, Entry, Search, first_entry, begun, next_waiting, marked_at, has_within, without, tried, step_tried, becomes_row, expand, is_beaten, give_up, if_next, settle, search_on, searched, rows_of, rows_searched}
+use Rattle.search_laws.specs.Standing.{HasEntryWithin, IsFresh, IsKept, IsNext, IsReachedBy, IsSettled, Stands, row_of, start_row}
 use Rattle.search_laws.proofs.Lists.{append_cases, filter_in}
 use Rattle.search_laws.proofs.Tests.{legal_steps_legal}
 use Rattle.search_laws.proofs.Entries.{NoneWaits, NextCases, next_cases, apart_same, MarkCases, marked_in, mark_keeps, FromEntry, rows_in, in_rows}
 use Rattle.search_laws.proofs.Kept.{is_tried, play_push}
-use Rattle.search_laws.proofs.Turns.{given_up_stands, same_rows, rows_before, row_new, started, rows_below, opened_kept, has_expanded, settled_of, settles, search_stops, search_goes, search_ends, has_searched, played_sound}
+use Rattle.search_laws.proofs.Turns.{given_up_stands, same_rows, rows_before, row_new, started, rows_below, becomes_row_kept, has_expanded, settled_of, settles, search_stops, search_goes, search_ends, has_searched, played_sound}
 use Rattle.search_laws.proofs.Results.{begun_stands}
 use Rattle.search_laws.specs.Shortcut.{IsLeastWaiting, SupportIsLeastWaiting}
 
@@ -84,7 +84,7 @@ come_tried g e t s legal same row come f i =
     by_case (inl old) = come f old
     by_case (inr new) = inr (record { from = row_of e; step = s; row = row; legal = legal; leads = sym (ap (λ r. r.position) new); costs = sym (ap (λ r. r.cost) new) })
 
-come_all_tried : FloorOfFinish → (g : PebbleGame) → IsDag g.dag → (first : ℕ) (e : Entry) → IsPlayed g e.position e.cost e.play
+come_all_tried : FloorOfFinish → (g : PebbleGame) → IsDag g.dag → (first : ℕ) (e : Entry) → IsReachedBy g e.position e.cost e.play
     → (ss : List Step) → ((s : Step) → IsIn s ss → IsStep g e.position s)
     → (t : Search) → IsKept g first t → ((r : Row) → IsIn r (rows_of t.entries) → r.cost ≤ e.cost) → IsIn (start_row g) (rows_of t.entries)
     → IsIn (row_of e) (rows_of t.entries) → AllCome g t → AllCome g (fold (step_tried g e) t ss)
@@ -101,8 +101,8 @@ come_all_tried ends g dag first e is (s ∷ ss) legal t kept below begins row co
 come_expanded : FloorOfFinish → (g : PebbleGame) → IsDag g.dag → (first : ℕ) (t : Search) → Stands g first t → (e : Entry) → IsNext t.entries e → AllCome g t → AllCome g (expand g e t)
 unfolding expand
 come_expanded ends g dag first t stands e next come =
-    come_all_tried ends g dag first e (stands.kept.played e next.member) (legal_steps g e.position) (legal_steps_legal g dag e.position (played_sound g dag e.position e.cost e.play (stands.kept.played e next.member))) (opened e t)
-    (opened_kept g dag first t stands.kept e next) (rows_below g dag first t stands.kept e next) (started g dag first t stands.kept e next) (row_new g dag first t stands.kept e next)
+    come_all_tried ends g dag first e (stands.kept.played e next.member) (legal_steps g e.position) (legal_steps_legal g dag e.position (played_sound g dag e.position e.cost e.play (stands.kept.played e next.member))) (becomes_row e t)
+    (becomes_row_kept g dag first t stands.kept e next) (rows_below g dag first t stands.kept e next) (started g dag first t stands.kept e next) (row_new g dag first t stands.kept e next)
     (come_marked g expanded e.position t (rows_before g dag first t stands.kept e next) come)
 
 come_given_up : (g : PebbleGame) → IsDag g.dag → (first : ℕ) (t : Search) → Stands g first t → (e : Entry) → IsNext t.entries e → AllCome g t → AllCome g (give_up e t)

@@ -9,13 +9,13 @@ use Rattle.normal_steps.specs.Steps.{IsStep, CanFinish}
 use Rattle.normal_steps.specs.Sound.{IsSound}
 use Rattle.normal_steps.specs.declared.step.Step.{Step}
 use Rattle.normal_steps.proofs.Sound.{plays_keep_sound, start_is_sound}
-use Rattle.forced_bounds.specs.Lists.{IsIn}
+use Rattle.comp_graph.specs.Lists.{IsIn}
 use Rattle.forced_bounds.specs.Floor.{floor}
 use Rattle.forced_bounds.specs.FloorLaws.{FloorOfFinish}
 use Rattle.potential_cert.specs.declared.tables.Row.{Row}
 use Rattle.normal_steps.specs.StepTests.{legal_steps}
-use Rattle.search_laws.specs.Search.{Mark, waiting, expanded, given_up, is_waiting, is_expanded, Entry, Search, next_waiting, marked_at, step_tried, opened, expand, is_beaten, give_up, if_next, settle, search_on, rows_of}
-use Rattle.search_laws.specs.Standing.{HasEntryWithin, IsFresh, IsKept, IsNext, IsPlayed, IsSettled, Stands, row_of, start_row}
+use Rattle.search_laws.specs.Search.{Mark, waiting, expanded, given_up, is_waiting, is_expanded, Entry, Search, next_waiting, marked_at, step_tried, becomes_row, expand, is_beaten, give_up, if_next, settle, search_on, rows_of}
+use Rattle.search_laws.specs.Standing.{HasEntryWithin, IsFresh, IsKept, IsNext, IsReachedBy, IsSettled, Stands, row_of, start_row}
 use Rattle.search_laws.proofs.Tests.{legal_steps_legal, legal_steps_are_all, leb_true}
 use Rattle.search_laws.proofs.Entries.{NoneWaits, NextCases, next_cases, apart_same, MarkCases, marked_in, in_marked, mark_keeps, apart_marked, rows_in, in_rows, NoRowAt, rows_marked, one_row_more, how_many_wait, wait_within, fewer_wait, none_wait}
 use Rattle.search_laws.proofs.Kept.{AreTried, all_tried}
@@ -33,7 +33,7 @@ within_marked m p es q h has =
     (f.0, f.1, keeps.0, keeps.1)
 
 -- the position of a play is sound
-pub played_sound : (g : PebbleGame) → IsDag g.dag → (p : Position) (c : ℕ) (ss : List Step) → IsPlayed g p c ss → IsSound g p
+pub played_sound : (g : PebbleGame) → IsDag g.dag → (p : Position) (c : ℕ) (ss : List Step) → IsReachedBy g p c ss → IsSound g p
 played_sound g dag p c ss is = subst (IsSound g) is.ends (plays_keep_sound g dag (start g) (start_is_sound g dag) ss is.play)
 
 module _ (g : PebbleGame) (dag : IsDag g.dag) (first : ℕ) (t : Search) (kept : IsKept g first t) (e : Entry) (next : IsNext t.entries e) where
@@ -84,12 +84,12 @@ module _ (g : PebbleGame) (dag : IsDag g.dag) (first : ℕ) (t : Search) (kept :
       cases x j (inl is) = subst P (sym is.1) (new x j is.0 (old x j))
       cases x j (inr is) = subst P (sym is.1) (old x j)
 
-  pub opened_kept : IsKept g first (opened e t)
-  opened_kept = record {
+  pub becomes_row_kept : IsKept g first (becomes_row e t)
+  becomes_row_kept = record {
     finishing = kept.finishing;
     costs = kept.costs;
     no_more = kept.no_more;
-    played = each_marked expanded (λ f. IsPlayed g f.position f.cost f.play) kept.played (λ x j same h. h);
+    played = each_marked expanded (λ f. IsReachedBy g f.position f.cost f.play) kept.played (λ x j same h. h);
     unfinished = each_marked expanded (λ f. CanFinish g f.position → ⊥) kept.unfinished (λ x j same h. h);
     apart = apart_marked expanded e.position t.entries kept.apart;
     beaten = each_marked expanded (λ f. is_waiting f.mark ≡ false → is_expanded f.mark ≡ false → t.cost ≤ f.cost + floor g f.position) kept.beaten (λ x j same h w y. absurd (grind arith));
@@ -121,7 +121,7 @@ module _ (g : PebbleGame) (dag : IsDag g.dag) (first : ℕ) (t : Search) (kept :
     finishing = kept.finishing;
     costs = kept.costs;
     no_more = kept.no_more;
-    played = each_marked given_up (λ f. IsPlayed g f.position f.cost f.play) kept.played (λ x j same h. h);
+    played = each_marked given_up (λ f. IsReachedBy g f.position f.cost f.play) kept.played (λ x j same h. h);
     unfinished = each_marked given_up (λ f. CanFinish g f.position → ⊥) kept.unfinished (λ x j same h. h);
     apart = apart_marked given_up e.position t.entries kept.apart;
     beaten = each_marked given_up (λ f. is_waiting f.mark ≡ false → is_expanded f.mark ≡ false → t.cost ≤ f.cost + floor g f.position) kept.beaten
@@ -152,8 +152,8 @@ unfolding expand
 has_expanded ends g dag first t stands e next =
     let played = stands.kept.played e next.member in
     let all = all_tried ends g dag first e played (legal_steps g e.position)
-    (legal_steps_legal g dag e.position (played_sound g dag e.position e.cost e.play played)) (opened e t)
-    (opened_kept g dag first t stands.kept e next) (rows_below g dag first t stands.kept e next) (started g dag first t stands.kept e next) in
+    (legal_steps_legal g dag e.position (played_sound g dag e.position e.cost e.play played)) (becomes_row e t)
+    (becomes_row_kept g dag first t stands.kept e next) (rows_below g dag first t stands.kept e next) (started g dag first t stands.kept e next) in
     record {
       stands = record {
         kept = all.kept;
@@ -164,12 +164,12 @@ has_expanded ends g dag first t stands e next =
       count = ap length all.rows ∙ one_row_more e t.entries stands.kept.apart next.member (waiting_no_row e.mark next.waits);
     }
   where
-    settled_by : (r : Row) (s : Step) → IsStep g r.position s → AreTried g first e (opened e t) (legal_steps g e.position) (fold (step_tried g e) (opened e t) (legal_steps g e.position))
-        → (r ≡ row_of e) ⊎ IsIn r (rows_of t.entries) → IsSettled g (fold (step_tried g e) (opened e t) (legal_steps g e.position)) r s
+    settled_by : (r : Row) (s : Step) → IsStep g r.position s → AreTried g first e (becomes_row e t) (legal_steps g e.position) (fold (step_tried g e) (becomes_row e t) (legal_steps g e.position))
+        → (r ≡ row_of e) ⊎ IsIn r (rows_of t.entries) → IsSettled g (fold (step_tried g e) (becomes_row e t) (legal_steps g e.position)) r s
     settled_by r s step all (inl same) =
         let here = subst (λ r. IsStep g r.position s) same step in
         let sound = played_sound g dag e.position e.cost e.play (stands.kept.played e next.member) in
-        subst (λ r. IsSettled g (fold (step_tried g e) (opened e t) (legal_steps g e.position)) r s) (sym same)
+        subst (λ r. IsSettled g (fold (step_tried g e) (becomes_row e t) (legal_steps g e.position)) r s) (sym same)
         (all.settled s ((legal_steps_are_all g dag e.position sound s).0 here))
     settled_by r s step all (inr old) = elim (stands.settled r old s step) [
       | inl beaten ↦ let lower = all.lower in inl (omega arith)

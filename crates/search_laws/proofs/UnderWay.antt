@@ -9,11 +9,11 @@ use Rattle.normal_steps.specs.Steps.{IsFinishing, total_cost}
 use Rattle.normal_steps.specs.Sound.{IsSound}
 use Rattle.normal_steps.specs.declared.step.Step.{Step}
 use Rattle.pebble_rules.proofs.Possible.{true_or_false}
-use Rattle.forced_bounds.specs.Lists.{IsIn}
+use Rattle.comp_graph.specs.Lists.{IsIn}
 use Rattle.forced_bounds.specs.Floor.{floor}
 use Rattle.forced_bounds.specs.FloorLaws.{FloorOfFinish}
 use Rattle.normal_steps.specs.StepTests.{can_finish, legal_steps}
-use Rattle.search_laws.specs.Search.{waiting, is_waiting, Entry, Search, first_entry, begun, opened, expand, next_waiting, step_tried, search_on, searched}
+use Rattle.search_laws.specs.Search.{waiting, is_waiting, Entry, Search, first_entry, begun, becomes_row, expand, next_waiting, step_tried, search_on, searched}
 use Rattle.search_laws.specs.Buckets.{bucket}
 use Rattle.search_laws.specs.Standing.{Stands}
 use Rattle.search_laws.proofs.Tests.{can_finish_true}
@@ -167,7 +167,7 @@ module _ (g : PebbleGame) (dag : IsDag g.dag) (first : List Step) (budget turns 
       let goes : search_on g (suc (budget - (turns + 1))) on.search ≡ search_on g (budget - (turns + 1)) (expand g (next_entry u on.plays k) has.search) =
       search_goes g (budget - (turns + 1)) on.search (next_entry u on.plays k) (ap (λ t. next_waiting t.entries) has.settles ∙ has.is_next)
       ∙ ap (λ t. search_on g (budget - (turns + 1)) (expand g (next_entry u on.plays k) t)) has.settles in
-      let went = tried.goes first on.plays (opened (next_entry u on.plays k) has.search) has.packs in
+      let went = tried.goes first on.plays (becomes_row (next_entry u on.plays k) has.search) has.packs in
       let left : budget - turns ≡ suc (budget - (turns + 1)) = omega arith in
       record {
         plays = went.0;

@@ -89,12 +89,12 @@ abbrev pub step_tried : PebbleGame → Entry → Search → Step → Search
 step_tried g e t s = tried g (e.play ++ s ∷ []) (stepped g e.position s) (e.cost + step_cost g e.position s) t
 
 -- the entry becomes a row
-abbrev pub opened : Entry → Search → Search
-opened e t = record { plan = t.plan; cost = t.cost; entries = marked_at expanded e.position t.entries }
+abbrev pub becomes_row : Entry → Search → Search
+becomes_row e t = record { plan = t.plan; cost = t.cost; entries = marked_at expanded e.position t.entries }
 
 -- the entry becomes a row, and each legal step from it is tried in order
 unfoldable pub expand : PebbleGame → Entry → Search → Search
-expand g e t = fold (step_tried g e) (opened e t) (legal_steps g e.position)
+expand g e t = fold (step_tried g e) (becomes_row e t) (legal_steps g e.position)
 
 -- no play through the entry can beat the plan
 abbrev pub is_beaten : PebbleGame → Search → Entry → Bool
@@ -122,7 +122,8 @@ search_on g (suc budget) t =
     (λ e. search_on g budget (expand g e (settle g (length t.entries) t)))
 
 -- The search for a cheaper plan than this one, with this budget of rows: from the first plan and the start, turn by turn. It is the
--- definition that the planner's rows, costs and plan are measured by.
+-- definition that the planner's rows, costs and plan are measured by. The law `search_goes_by_turns` ties it to the rules as docs/PLAN.md
+-- tells them: no turn without budget or without a waiting entry, a beaten entry is given up, and else the next entry is expanded.
 abbrev pub searched : PebbleGame → List Step → ℕ → Search
 searched g plan budget = search_on g budget (begun g plan)
 

@@ -9,7 +9,7 @@ use Rattle.normal_steps.specs.Steps.{IsStep, CanFinish, IsFinishing, total_cost,
 use Rattle.normal_steps.specs.Sound.{IsSound}
 use Rattle.pebble_rules.specs.declared.moves.Move.{Move}
 use Rattle.normal_steps.specs.declared.step.Step.{Step}
-use Rattle.forced_bounds.specs.Lists.{IsIn}
+use Rattle.comp_graph.specs.Lists.{IsIn}
 use Rattle.potential_cert.specs.declared.tables.Row.{Row}
 use Rattle.potential_cert.specs.Table.{AreDistinct, IsValid, IsSupport}
 use Rattle.potential_cert.specs.TableLaws.{HaveSameMembers}

@@ -5,7 +5,7 @@ use Rattle.comp_graph.specs.Dags.{IsDag}
 use Rattle.pebble_rules.specs.Rules.{start}
 use Rattle.normal_steps.specs.Steps.{IsFinishing}
 use Rattle.normal_steps.specs.declared.step.Step.{Step}
-use Rattle.forced_bounds.specs.Lists.{IsIn}
+use Rattle.comp_graph.specs.Lists.{IsIn}
 use Rattle.forced_bounds.specs.Floor.{floor}
 use Rattle.potential_cert.specs.Table.{IsSupport}
 use Rattle.search_laws.specs.Packing.{Store}

@@ -5,7 +5,7 @@ use Rattle.pebble_rules.specs.declared.position.Position.{Position}
 use Rattle.pebble_rules.specs.Rules.{start}
 use Rattle.normal_steps.specs.Steps.{IsStep, stepped, step_cost, IsPlay, play_after, play_cost, CanFinish, IsFinishing, total_cost}
 use Rattle.normal_steps.specs.declared.step.Step.{Step}
-use Rattle.forced_bounds.specs.Lists.{IsIn}
+use Rattle.comp_graph.specs.Lists.{IsIn}
 use Rattle.forced_bounds.specs.Floor.{floor}
 use Rattle.potential_cert.specs.declared.tables.Row.{Row}
 use Rattle.potential_cert.specs.Table.{offer}
@@ -27,7 +27,7 @@ pub record IsNext (es : List Entry) (e : Entry) : Type 0 where
   pub least : (f : Entry) → IsIn f es → is_waiting f.mark ≡ true → e.cost ≤ f.cost
 
 -- the play leads from the start to the position at the cost
-pub record IsPlayed (g : PebbleGame) (p : Position) (c : ℕ) (ss : List Step) : Type 0 where
+pub record IsReachedBy (g : PebbleGame) (p : Position) (c : ℕ) (ss : List Step) : Type 0 where
   pub play : IsPlay g (start g) ss
   pub ends : play_after g (start g) ss ≡ p
   pub costs : play_cost g (start g) ss ≡ c
@@ -56,7 +56,7 @@ pub record IsKept (g : PebbleGame) (first : ℕ) (t : Search) : Type 0 where
   pub finishing : IsFinishing g (start g) t.plan
   pub costs : total_cost g (start g) t.plan ≡ t.cost
   pub no_more : t.cost ≤ first
-  pub played : (e : Entry) → IsIn e t.entries → IsPlayed g e.position e.cost e.play
+  pub played : (e : Entry) → IsIn e t.entries → IsReachedBy g e.position e.cost e.play
   pub unfinished : (e : Entry) → IsIn e t.entries → CanFinish g e.position → ⊥
   pub apart : AreApart t.entries
   pub beaten : (e : Entry) → IsIn e t.entries → is_waiting e.mark ≡ false → is_expanded e.mark ≡ false → t.cost ≤ e.cost + floor g e.position

@@ -6,7 +6,7 @@ use Rattle.pebble_rules.specs.declared.position.Position.{Position}
 use Rattle.pebble_rules.specs.Rules.{start}
 use Rattle.normal_steps.specs.declared.step.Step.{Step}
 use Rattle.normal_steps.specs.StepTests.{is_step}
-use Rattle.search_laws.specs.Search.{waiting, is_expanded, Entry, Search, next_waiting, step_tried, opened, settle, search_on, searched}
+use Rattle.search_laws.specs.Search.{waiting, is_expanded, Entry, Search, next_waiting, step_tried, becomes_row, settle, search_on, searched}
 use Rattle.search_laws.specs.Standing.{IsKept, IsNext, Stands}
 use Rattle.normal_steps.specs.Steps.{total_cost}
 use Rattle.search_laws.specs.Packing.{Store, Place, Best, entry_at, Packs}
@@ -51,7 +51,7 @@ pub record HasNext (g : PebbleGame) (most : ℕ) (first : List Step) (plays : �
   pub within : k < u.size
   pub is_row : is_expanded (u.at k).mark ≡ true
   pub search : Search
-  pub packs : Packs g first u b plays (opened (next_entry u plays k) search)
+  pub packs : Packs g first u b plays (becomes_row (next_entry u plays k) search)
   pub kept : IsKept g most search
   pub settles : settled_of g t ≡ search
   pub next : IsNext search.entries (next_entry u plays k)

@@ -26,6 +26,7 @@ use Rattle.pebble_rules.specs.declared.position.Position.{Position}
 use Rattle.pebble_rules.specs.Rules.{start, moved, position_after, IsMove, IsPebbling}
 use Rattle.pebble_rules.specs.declared.moves.Move.{Move}
 use Rattle.pebble_rules.specs.declared.moves.Move.TheVariants.{Load as LoadMove, Store as StoreMove, Compute, DropRed, DropBlue}
+use Rattle.pebble_rules.specs.Transfers.{stores}
 use Rattle.comp_graph.proofs.Sets.{size_empty, in_insert_same, in_insert, size_set_below, size_le_below}
 use Rattle.scratch_machine.specs.declared.code.Source.{Source}
 use Rattle.scratch_machine.specs.declared.code.Source.TheVariants.{Const}
@@ -34,7 +35,7 @@ use Rattle.scratch_machine.specs.declared.code.Instr.TheVariants.{Apply}
 use Rattle.scratch_machine.specs.declared.code.OutWord.{OutWord}
 use Rattle.scratch_machine.specs.Cells.{Cells}
 use Rattle.scratch_machine.specs.Codes.{IsInstr, IsSource, IsConstant, IsApply}
-use Rattle.scratch_machine.specs.CodePlays.{Places, NamesAll, IsComputeOf, with_slot, with_word, without_slot, Plays, first_places, HasOutputs, stores}
+use Rattle.scratch_machine.specs.CodePlays.{Places, NamesAll, IsComputeOf, with_slot, with_word, without_slot, Plays, first_places, HasOutputs}
 use Rattle.slot_alloc.specs.Emitted.{Layout, lowest, slot_given, slot_freed, word_given, source_of, sources, application, code_of_move, layout_after, emitted, layout_after_all, first_layout, output_words}
 use Rattle.slot_alloc.specs.Neat.{IsNeat, AreNeat}
 use Rattle.slot_alloc.specs.PlanCode.{EmittedCodePlays}

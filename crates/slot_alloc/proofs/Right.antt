@@ -1,16 +1,15 @@
 -- The code of a plan is right.
-use Rattle.std.proofs.Common.{◌≡◌, ℕ, ◌+◌, ◌*◌, List, [], ◌∷◌, sym, ap, ◌∙◌, subst, arith}
-use Rattle.std.proofs.Math.Nat.{mul-add}
+use Rattle.std.proofs.Common.{◌≡◌, ℕ, List, sym, ◌∙◌, subst, arith}
 use Rattle.comp_graph.specs.Graphs.{GraphParts}
-use Rattle.comp_graph.specs.Games.{PebbleGame, IsGame, game_of}
+use Rattle.comp_graph.specs.Games.{IsGame, game_of}
 use Rattle.comp_graph.proofs.GraphLaws.{IsDag-dag_of}
-use Rattle.pebble_rules.specs.Rules.{start, cost}
+use Rattle.pebble_rules.specs.Rules.{start}
 use Rattle.pebble_rules.specs.declared.moves.Move.{Move}
-use Rattle.pebble_rules.specs.declared.moves.Move.TheVariants.{Load, Store, Compute, DropRed, DropBlue}
+use Rattle.pebble_rules.proofs.Transfers.{cost_weighs}
 use Rattle.normal_steps.specs.Plans.{PlanParts, IsPlan}
 use Rattle.normal_steps.specs.PlanMoves.{IsPlayed}
 use Rattle.normal_steps.proofs.PlanMoves.{plans_are_pebblings}
-use Rattle.scratch_machine.specs.CodePlays.{CodePlays, loads, stores}
+use Rattle.scratch_machine.specs.CodePlays.{CodePlays}
 use Rattle.scratch_machine.specs.Codes.{CodeParts}
 use Rattle.scratch_machine.proofs.GraphValues.{codes_run}
 use Rattle.slot_alloc.specs.Emitted.{code_of}
@@ -18,21 +17,6 @@ use Rattle.slot_alloc.specs.Neat.{AreNeat}
 use Rattle.slot_alloc.specs.PlanCode.{plan_moves, plan_code, CanBeEmitted, IsCodeOf, PlanCodeIsRight}
 use Rattle.slot_alloc.proofs.Emitting.{emitted_code_plays}
 use Rattle.slot_alloc.proofs.Neatness.{plays_are_neat}
-
-one_more : (a b m n : ℕ) → a + (a * m + b * n) ≡ a * (m + 1) + b * n
-one_more a b m n = let next = mul-add a m 1 in omega arith
-
-one_more_after : (a b m n : ℕ) → b + (a * m + b * n) ≡ a * m + b * (n + 1)
-one_more_after a b m n = let next = mul-add b n 1 in omega arith
-
--- what the moves cost is what their loads and stores weigh
-weighed : (g : PebbleGame) (ms : List Move) → cost g ms ≡ g.load * loads ms + g.store * stores ms
-weighed g [] = omega arith
-weighed g (Load v ∷ ms) = ap (λ c. g.load + c) (weighed g ms) ∙ one_more g.load g.store (loads ms) (stores ms)
-weighed g (Store v ∷ ms) = ap (λ c. g.store + c) (weighed g ms) ∙ one_more_after g.load g.store (loads ms) (stores ms)
-weighed g (Compute v ∷ ms) = omega (arith, weighed g ms)
-weighed g (DropRed v ∷ ms) = omega (arith, weighed g ms)
-weighed g (DropBlue v ∷ ms) = omega (arith, weighed g ms)
 
 module _ (plan : PlanParts) (is : IsGame plan.game) (ok : IsPlan plan) where
   plan_played : IsPlayed (game_of plan.game) (start (game_of plan.game)) plan.steps
@@ -69,6 +53,6 @@ plan_code_is_right plan is ok =
       plays = code.plays;
       valid = code.valid;
       words = code.words;
-      weighs = sym (weighed (game_of plan.game) (plan_moves plan)) ∙ costs;
+      weighs = sym (cost_weighs (game_of plan.game) (plan_moves plan)) ∙ costs;
       runs = λ inputs counts. codes_run plan.game.graph (plan_code plan) (plan_moves plan) is.valid code.valid code.plays inputs counts;
     }

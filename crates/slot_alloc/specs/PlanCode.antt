@@ -7,12 +7,13 @@ use Rattle.comp_graph.specs.Games.{PebbleGame, IsGame, game_on, game_of}
 use Rattle.pebble_rules.specs.Rules.{start, IsComplete, cost}
 use Rattle.pebble_rules.specs.declared.moves.Move.{Move}
 use Rattle.pebble_rules.specs.declared.position.Position.{Position}
+use Rattle.pebble_rules.specs.Transfers.{loads, stores}
 use Rattle.normal_steps.specs.declared.step.Step.{Step}
 use Rattle.normal_steps.specs.Steps.{IsFinishing}
 use Rattle.normal_steps.specs.PlanMoves.{play_moves}
 use Rattle.normal_steps.specs.Plans.{PlanParts, IsPlan}
 use Rattle.scratch_machine.specs.Codes.{CodeParts, IsCode}
-use Rattle.scratch_machine.specs.CodePlays.{CodePlays, GivesOutputs, loads, stores}
+use Rattle.scratch_machine.specs.CodePlays.{CodePlays, GivesOutputs}
 use Rattle.slot_alloc.specs.Emitted.{code_of}
 use Rattle.slot_alloc.specs.Neat.{AreNeat}
 

@@ -1,5 +1,6 @@
 //! A number of steps, kept in tokens that have no bytes.
 ghost use Rattle.std.specs.Prelude.{◌≡◌, ◌+◌, ◌<◌};
+ghost use Rattle.step_count.specs.Openings.{Opens};
 
 use std::marker::Model;
 use std::sync::ledger::{Blank, Book, Ledger, Share};
@@ -25,9 +26,7 @@ impl<L: Ledger> Model for Steps<L> {
 impl<L: Ledger> Steps<L> {
     /// No steps, in a ledger that has none yet. It takes no memory.
     pub fn new(blank: Blank) -> Steps<L>
-        requires name { blank.name ≡ L.name }
-        requires parts { blank.parts ≡ L.parts }
-        requires some { 0 < L.parts }
+        requires { Opens L.name L.parts blank }
         ensures { result ≡ 0 }
     {
         let (book, share) = blank.open();

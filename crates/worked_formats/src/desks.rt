@@ -186,12 +186,12 @@ fn memory_desks(rt: HostRuntime) -> Result<(), TestFail> {
     Ok(())
 }
 
-// The input is `in` and the table `rows`, whatever is written.
+// The input is `in` and the file `rows`, whatever is written.
 fn is_honest(alloc: Global) -> Result<bool, AllocError> {
     let mut desk = HonestDesk {
         name: String::from_str(alloc, "table")?,
         input: Vec::from_slice(alloc, b"in")?,
-        table: Vec::from_slice(alloc, b"rows")?,
+        file: Vec::from_slice(alloc, b"rows")?,
         written: 0,
     };
     Ok(

@@ -289,7 +289,7 @@ fn check_honest(
     let mut desk = HonestDesk {
         name: String::from_str(alloc, file_word(&words))?,
         input: Vec::from_slice(alloc, kernel.as_bytes())?,
-        table: Vec::from_slice(alloc, b"5")?,
+        file: Vec::from_slice(alloc, b"5")?,
         written: 0,
     };
     let bytes = line.len();

@@ -5,7 +5,7 @@ use crate::builders::position;
 use comp_graph::{NoMemory, VertexSet};
 use normal_steps::Step;
 use pebble_rules::Position;
-use position_arena::{Head, Rows};
+use position_arena::{Head, Positions};
 use std::test::Fail;
 
 // The first word of the red set and that of the blue set of a position without vertices from 64 on, and a head.
@@ -35,7 +35,7 @@ fn row(k: u32) -> Given {
 }
 
 // Pushes a position that fits and is not there, and answers its place, or else a number that is no place.
-fn put(rows: &mut Rows, row: Given) -> Result<u32, NoMemory> {
+fn put(rows: &mut Positions, row: Given) -> Result<u32, NoMemory> {
     let p = position(row.red, row.blue);
     if rows.len() == 4294967295 {
         return Ok(4294967295);
@@ -50,33 +50,33 @@ fn put(rows: &mut Rows, row: Given) -> Result<u32, NoMemory> {
 }
 
 // Gives a row that is there another head.
-fn change(rows: &mut Rows, k: u32, head: Head) {
+fn change(rows: &mut Positions, k: u32, head: Head) {
     if k < rows.len() {
         rows.set_head(k, head);
     }
 }
 
 // Whether no row has these words.
-fn is_new(rows: &Rows, red: u64, blue: u64) -> bool {
+fn is_new(rows: &Positions, red: u64, blue: u64) -> bool {
     rows.find(&position(red, blue)).is_none()
 }
 
 // Whether row k is found by its position.
-fn is_found(rows: &Rows, k: u32, row: Given) -> bool {
+fn is_found(rows: &Positions, k: u32, row: Given) -> bool {
     rows.find(&position(row.red, row.blue)) == Some(k)
 }
 
 // Whether row k has these words and this head, and is found by its position.
-fn is_row(rows: &Rows, k: u32, row: Given) -> bool {
+fn is_row(rows: &Positions, k: u32, row: Given) -> bool {
     k < rows.len()
-        && rows.row(k) == [row.red, row.blue].as_slice()
+        && rows.words_at(k) == [row.red, row.blue].as_slice()
         && rows.head(k) == row.head
         && rows.position(k) == position(row.red, row.blue)
         && is_found(rows, k, row)
 }
 
 // Whether there are just the first `count` rows.
-fn are_rows(rows: &Rows, count: u32) -> bool {
+fn are_rows(rows: &Positions, count: u32) -> bool {
     for k in 0..count {
         if !is_row(rows, k, row(k)) {
             return false;
@@ -87,7 +87,7 @@ fn are_rows(rows: &Rows, count: u32) -> bool {
 }
 
 // Pushes row k. Where it is refused all must be as before, and it is pushed once more.
-fn add(rows: &mut Rows, k: u32) -> Result<u32, NoMemory> {
+fn add(rows: &mut Positions, k: u32) -> Result<u32, NoMemory> {
     match put(rows, row(k)) {
         Ok(place) => Ok(place),
         Err(_) if are_rows(rows, k) => put(rows, row(k)),
@@ -100,7 +100,7 @@ fn two_rows(rt: HostRuntime) -> Result<(), Fail> {
     let start = case(0, 1, 0, 0, Step::Work(1));
     let next = case(3, 1, 1, 0, Step::Work(1));
     let changed = case(0, 1, 5, 1, Step::Drop(0));
-    let mut rows = Rows::new(rt.alloc(), 1);
+    let mut rows = Positions::new(rt.alloc(), 1);
     assert!(rt; is_new(&rows, 0, 1));
     assert_eq!(rt; put(&mut rows, start)?, 0);
     assert!(rt; is_row(&rows, 0, start));
@@ -119,7 +119,7 @@ fn two_rows(rt: HostRuntime) -> Result<(), Fail> {
 
 #[test]
 fn past_a_chunk(rt: HostRuntime) -> Result<(), Fail> {
-    let mut rows = Rows::new(rt.alloc(), 1);
+    let mut rows = Positions::new(rt.alloc(), 1);
     for k in 0..4097 {
         assert_eq!(rt; add(&mut rows, k)?, k);
     }

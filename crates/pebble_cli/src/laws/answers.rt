@@ -1,7 +1,7 @@
 //! Laws of the answers of all commands, over the definitions alone. With `determined` of `pebble` they say which answer comes, and with
 //! `said` what a status means.
 ghost use Rattle.pebble_cli.specs.AnswerLaws.{OneAnswer, SomeAnswer, AnswersAnyInput, AdmitsAnyInput, NoFaultIsAnAnswer, TablesAreOfWriters};
-ghost use Rattle.pebble_cli.specs.AnswerLaws.{UsageOnly, UsageAlways, KernelOnly, KernelAlways, TooSmallOnly, TooSmallAlways, LastOnly, LastAlways};
+ghost use Rattle.pebble_cli.specs.AnswerLaws.{UsageOnly, UsageAlways, KernelOnly, KernelAlways, TooSmallOnly, TooSmallAlways, OwnOnly, OwnAlways};
 ghost use Rattle.pebble_cli.specs.AnswerLaws.{CodeOnly, CodeAlways};
 
 /// All answers to the same words, input and file are one: one status, one printed text and one table, or none. That holds of a refusal in
@@ -55,7 +55,7 @@ pub fn too_small_answers()
 {}
 
 /// A command's own answer stands exactly where nothing refuses the input.
-pub fn last_answers()
-    ensures only { LastOnly }
-    ensures always { LastAlways }
+pub fn own_answers()
+    ensures only { OwnOnly }
+    ensures always { OwnAlways }
 {}

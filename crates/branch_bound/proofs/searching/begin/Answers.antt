@@ -1,4 +1,5 @@
-use Rattle.std.proofs.Common.{◌≡◌, ◌*◌, ◌≤◌, [], length, refl, sym, ap, ◌∙◌, subst, arith}
+-- The places before the first turn are those of a search, whatever its budget.
+use Rattle.std.proofs.Common.{◌≡◌, ℕ, ◌*◌, ◌≤◌, [], length, refl, sym, ap, ◌∙◌, subst, arith}
 use Rattle.comp_graph.specs.Games.{GameParts, IsGame, game_of}
 use Rattle.comp_graph.proofs.GraphLaws.{IsDag-dag_of}
 use Rattle.pebble_rules.specs.declared.position.Position.{Position}
@@ -36,11 +37,11 @@ returns c =
     let fl = c.floor-floor.ensures.value ∙ ap (floor (game_of game)) c.start-start.ensures in
     elim c.if-floor-best.branch [
       | then-floor-best+in_ok-add w ↦
-          subst (λ f. IsSearching game c.args.first.now c.args.budget 0 f c.args.best.now) (sym w.frontier-is)
-          (searching_open game (IsDag-dag_of game.graph c.requires.game.valid) c.args.first.now c.requires.finishing c.args.budget c.args.best.now c.requires.cost c.requires.first c.new.result.words few wide _ empty _
+          subst (λ f. (budget : ℕ) → IsSearching game c.args.first.now budget 0 f c.args.best.now) (sym w.frontier-is)
+          (λ budget. searching_open game (IsDag-dag_of game.graph c.requires.game.valid) c.args.first.now c.requires.finishing budget c.args.best.now c.requires.cost c.requires.first c.new.result.words few wide _ empty _
           c.start-start.result _ c.floor-floor.result c.start-start.ensures refl fl w.if-floor-best.true w.in_ok-add.ensures.frontier w.in_ok-add.ensures.put w.in_ok-add.ensures.size w.in_ok-add.ensures.words)
       | else-floor-best w ↦
           let test = w.if-floor-best.false in
-          subst (λ f. IsSearching game c.args.first.now c.args.budget 0 f c.args.best.now) (sym w.frontier-is)
-          (searching_closed game (IsDag-dag_of game.graph c.requires.game.valid) c.args.first.now c.requires.finishing c.args.budget c.args.best.now c.requires.cost c.requires.first c.new.result.words few wide _ empty (omega (arith, fl, test)))
+          subst (λ f. (budget : ℕ) → IsSearching game c.args.first.now budget 0 f c.args.best.now) (sym w.frontier-is)
+          (λ budget. searching_closed game (IsDag-dag_of game.graph c.requires.game.valid) c.args.first.now c.requires.finishing budget c.args.best.now c.requires.cost c.requires.first c.new.result.words few wide _ empty (omega (arith, fl, test)))
     ]

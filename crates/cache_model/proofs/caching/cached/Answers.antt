@@ -3,10 +3,11 @@ use Rattle.std.proofs.Common.{◌≡◌, length, sym, ap, ◌∙◌, subst, arit
 use Rattle.comp_graph.specs.Games.{game_of}
 use Rattle.comp_graph.proofs.GraphLaws.{IsDag-dag_of}
 use Rattle.pebble_rules.specs.Rules.{start, IsComplete}
+use Rattle.pebble_rules.specs.Transfers.{loads, stores}
+use Rattle.pebble_rules.proofs.Transfers.{transfers_few}
 use Rattle.cache_model.specs.Caches.{Cache}
-use Rattle.cache_model.specs.CacheRuns.{loads_of, stores_of}
 use Rattle.cache_model.specs.Steps.{cache_of}
-use Rattle.cache_model.proofs.Calls.{run_is_whole, run_moves_few, transfers_few, counted_cost}
+use Rattle.cache_model.proofs.Calls.{run_is_whole, run_moves_few, counted_cost}
 use Rattle.cache_model.proofs.Pebbling.{caches_are_pebblings}
 use Rattle.cache_model.proofs.caching.cached.Goals as goal
 
@@ -34,8 +35,8 @@ returns-clause-exact c =
     record {
       moves = moves;
       hits = ap (λ (r : Cache). r.hits) whole;
-      loads = c.loads.ensures ∙ ap loads_of (c.deref.ensures.value ∙ moves);
-      stores = c.stores.ensures ∙ ap stores_of (c.deref-2.ensures.value ∙ moves);
+      loads = c.loads.ensures ∙ ap loads (c.deref.ensures.value ∙ moves);
+      stores = c.stores.ensures ∙ ap stores (c.deref-2.ensures.value ∙ moves);
     }
 
 pub returns-clause-complete : goal.returns-clause-complete
@@ -49,14 +50,15 @@ returns-clause-complete c =
 pub returns-clause-cost : goal.returns-clause-cost
 returns-clause-cost c =
     counted_cost (game_of c.args.game.now) c.store_outputs.new.self.moves.items c.loads.result c.stores.result
-    (c.loads.ensures ∙ ap loads_of c.deref.ensures.value) (c.stores.ensures ∙ ap stores_of c.deref-2.ensures.value)
+    (c.loads.ensures ∙ ap loads c.deref.ensures.value) (c.stores.ensures ∙ ap stores c.deref-2.ensures.value)
 
 pub returns-clause-few : goal.returns-clause-few
 returns-clause-few c =
     let g = game_of c.args.game.now in
     let moves = c.store_outputs.new.self.moves.items in
     let whole = run_is_whole g (cache_of c.in_ok-caching.caching) (cache_of c.store_outputs.new.self) c.in_ok-caching.ensures.cache c.in_ok-store_outputs.ensures in
-    let few = transfers_few moves (run_moves_few g c.in_ok-caching.ensures.valid.valid.small (cache_of c.store_outputs.new.self) whole) in
-    let loads : c.loads.result ≡ loads_of moves = c.loads.ensures ∙ ap loads_of c.deref.ensures.value in
-    let stores : c.stores.result ≡ stores_of moves = c.stores.ensures ∙ ap stores_of c.deref-2.ensures.value in
-    omega (arith, few, loads, stores)
+    let few = run_moves_few g c.in_ok-caching.ensures.valid.valid.small (cache_of c.store_outputs.new.self) whole in
+    let transfers = transfers_few moves in
+    let loaded : c.loads.result ≡ loads moves = c.loads.ensures ∙ ap loads c.deref.ensures.value in
+    let saved : c.stores.result ≡ stores moves = c.stores.ensures ∙ ap stores c.deref-2.ensures.value in
+    omega (arith, few, transfers, loaded, saved)

@@ -1,6 +1,6 @@
 use Rattle.std.proofs.Common.{sym, arith}
 use Rattle.comp_graph.specs.Games.{game_of}
-use Rattle.cert_checker.specs.Refusals.{FinishHolds}
+use Rattle.potential_cert.specs.Table.{FinishHolds}
 use Rattle.potential_cert.proofs.Places.{index_at}
 use Rattle.cert_checker.proofs.RowTests.{each_more}
 use Rattle.cert_checker.proofs.Checked.{each_row, first_without}

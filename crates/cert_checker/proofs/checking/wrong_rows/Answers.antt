@@ -2,10 +2,10 @@
 use Rattle.std.proofs.Common.{sym, ap, ◌∙◌, subst, refl, arith}
 use Rattle.comp_graph.specs.Games.{game_of}
 use Rattle.normal_steps.specs.Sound.{IsSound}
-use Rattle.potential_cert.specs.Table.{IsRising}
+use Rattle.potential_cert.specs.Table.{IsRising, StepsHold, FinishHolds, StartHolds}
 use Rattle.potential_cert.specs.Order.{precedes}
 use Rattle.cert_checker.specs.declared.refusal.Reason.TheVariants as reasons
-use Rattle.cert_checker.specs.Refusals.{EachRow, IsFirstWithout, StepsHold, FinishHolds, StartHolds}
+use Rattle.cert_checker.specs.Refusals.{EachRow, IsFirstWithout}
 use Rattle.cert_checker.proofs.Checked.{before_position, before_start, before_step, before_finish, passes_all, refused_as}
 use Rattle.cert_checker.proofs.checking.wrong_rows.Goals as goal
 
@@ -16,7 +16,7 @@ returns-in-Some-first_unsound-clause-some c =
     let rows_are = c.deref-rows.ensures.value ∙ ap (λ t. t.rows) c.table.view_is in
     let bound_is = ap (λ t. t.bound) c.table.view_is in
     let order = before_position g t c.requires.numbers (subst (IsRising precedes) rows_are c.in_default.ensures) in
-    refused_as g t c.new-in-Some-first_unsound.result reasons.Position c.in-Some-first_unsound.row c.new-in-Some-first_unsound.ensures.reason c.new-in-Some-first_unsound.ensures.row (record { breaks = subst (λ rows. IsFirstWithout (λ r. IsSound g r.position) rows c.in-Some-first_unsound.row) rows_are c.in-Some-first_unsound.ensures; first = order })
+    refused_as g t c.new-in-Some-first_unsound.result reasons.Position c.in-Some-first_unsound.row c.new-in-Some-first_unsound.ensures.reason c.new-in-Some-first_unsound.ensures.row (record { gives = subst (λ rows. IsFirstWithout (λ r. IsSound g r.position) rows c.in-Some-first_unsound.row) rows_are c.in-Some-first_unsound.ensures; first = order })
 
 pub returns-then-not-start_holds-clause-some : goal.returns-then-not-start_holds-clause-some
 returns-then-not-start_holds-clause-some c =
@@ -27,7 +27,7 @@ returns-then-not-start_holds-clause-some c =
     let order = before_position g t c.requires.numbers (subst (IsRising precedes) rows_are c.in_default.ensures) in
     let position = before_start g t order (subst (EachRow (λ r. IsSound g r.position)) rows_are c.in_default-first_unsound.ensures) in
     refused_as g t c.new-then-not-start_holds.result reasons.Start 0 c.new-then-not-start_holds.ensures.reason c.new-then-not-start_holds.ensures.row (record {
-      breaks = (
+      gives = (
         refl,
         λ holds.
             let tested = c.start_holds.ensures.1 (subst (λ rows. StartHolds g rows c.table.inside.bound) (sym rows_are) (subst (StartHolds g t.rows) (sym bound_is) holds)) in
@@ -46,7 +46,7 @@ returns-in-Some-first_bad_steps-clause-some c =
     let order = before_position g t c.requires.numbers (subst (IsRising precedes) rows_are c.in_default.ensures) in
     let position = before_start g t order (subst (EachRow (λ r. IsSound g r.position)) rows_are c.in_default-first_unsound.ensures) in
     let start = before_step g t position (subst (StartHolds g t.rows) bound_is (subst (λ rows. StartHolds g rows c.table.inside.bound) rows_are (c.start_holds.ensures.0 c.if-not-start_holds.false))) in
-    refused_as g t c.new-in-Some-first_bad_steps.result reasons.Step c.in-Some-first_bad_steps.row c.new-in-Some-first_bad_steps.ensures.reason c.new-in-Some-first_bad_steps.ensures.row (record { breaks = subst (λ b. IsFirstWithout (StepsHold g t.rows b) t.rows c.in-Some-first_bad_steps.row) bound_is (subst (λ rows. IsFirstWithout (StepsHold g rows c.table.inside.bound) rows c.in-Some-first_bad_steps.row) rows_are c.in-Some-first_bad_steps.ensures); first = start })
+    refused_as g t c.new-in-Some-first_bad_steps.result reasons.Step c.in-Some-first_bad_steps.row c.new-in-Some-first_bad_steps.ensures.reason c.new-in-Some-first_bad_steps.ensures.row (record { gives = subst (λ b. IsFirstWithout (StepsHold g t.rows b) t.rows c.in-Some-first_bad_steps.row) bound_is (subst (λ rows. IsFirstWithout (StepsHold g rows c.table.inside.bound) rows c.in-Some-first_bad_steps.row) rows_are c.in-Some-first_bad_steps.ensures); first = start })
 
 pub returns-in-Some-first_bad_finish-clause-some : goal.returns-in-Some-first_bad_finish-clause-some
 returns-in-Some-first_bad_finish-clause-some c =
@@ -58,7 +58,7 @@ returns-in-Some-first_bad_finish-clause-some c =
     let position = before_start g t order (subst (EachRow (λ r. IsSound g r.position)) rows_are c.in_default-first_unsound.ensures) in
     let start = before_step g t position (subst (StartHolds g t.rows) bound_is (subst (λ rows. StartHolds g rows c.table.inside.bound) rows_are (c.start_holds.ensures.0 c.if-not-start_holds.false))) in
     let step = before_finish g t start (subst (λ b. EachRow (StepsHold g t.rows b) t.rows) bound_is (subst (λ rows. EachRow (StepsHold g rows c.table.inside.bound) rows) rows_are c.in_default-first_bad_steps.ensures)) in
-    refused_as g t c.new-in-Some-first_bad_finish.result reasons.Finish c.in-Some-first_bad_finish.row c.new-in-Some-first_bad_finish.ensures.reason c.new-in-Some-first_bad_finish.ensures.row (record { breaks = subst (λ b. IsFirstWithout (FinishHolds g b) t.rows c.in-Some-first_bad_finish.row) bound_is (subst (λ rows. IsFirstWithout (FinishHolds g c.table.inside.bound) rows c.in-Some-first_bad_finish.row) rows_are c.in-Some-first_bad_finish.ensures); first = step })
+    refused_as g t c.new-in-Some-first_bad_finish.result reasons.Finish c.in-Some-first_bad_finish.row c.new-in-Some-first_bad_finish.ensures.reason c.new-in-Some-first_bad_finish.ensures.row (record { gives = subst (λ b. IsFirstWithout (FinishHolds g b) t.rows c.in-Some-first_bad_finish.row) bound_is (subst (λ rows. IsFirstWithout (FinishHolds g c.table.inside.bound) rows c.in-Some-first_bad_finish.row) rows_are c.in-Some-first_bad_finish.ensures); first = step })
 
 pub returns-clause-none : goal.returns-clause-none
 returns-clause-none c =

@@ -2,8 +2,7 @@ use Rattle.std.proofs.Common.{◌≡◌, ◌+◌, sym, ap, ◌∙◌, subst, inl
 use Rattle.comp_graph.specs.Games.{game_of}
 use Rattle.normal_steps.specs.Steps.{stepped, step_cost}
 use Rattle.forced_bounds.specs.Floor.{floor}
-use Rattle.potential_cert.specs.Table.{HasRowWithin}
-use Rattle.cert_checker.specs.Refusals.{StepHolds}
+use Rattle.potential_cert.specs.Table.{HasRowWithin, StepHolds}
 use Rattle.cert_checker.proofs.RowTests.{is_within_true}
 use Rattle.cert_checker.proofs.row_tests.step_holds.Goals as goal
 

@@ -1,7 +1,7 @@
 use Rattle.std.proofs.Common.{inl, refl, subst, arith}
 use Rattle.comp_graph.specs.Games.{game_of}
 use Rattle.potential_cert.proofs.StepsLeft.{AreLeft, all_left, next_left, none_left}
-use Rattle.cert_checker.specs.Refusals.{StepHolds}
+use Rattle.potential_cert.specs.Table.{StepHolds}
 use Rattle.cert_checker.proofs.row_tests.steps_hold.Goals as goal
 
 pub loop-step-init : goal.loop-step-init

@@ -1,12 +1,17 @@
--- What was read of the file says which answer it is.
-use Rattle.command_answers.proofs.TableFiles.{of_long, of_whole}
+-- What the file proves says which answer it is.
+use Rattle.command_answers.specs.declared.check.Checked.TheVariants as checks
+use Rattle.command_answers.proofs.TableFiles.{certified_file, proves_played, refused_file}
 use Rattle.command_answers.proofs.check.check_answer.Goals as goal
 
-pub returns-in-Whole : goal.returns-in-Whole
-returns-in-Whole c =
-    of_whole c.table_answer.result c.args.asked c.args.game.now.graph c.args.file.now c.in-Whole.bytes c.deref.result.now c.in-Whole.is c.deref.ensures.value c.table_answer.ensures
+pub returns-in-Accepted : goal.returns-in-Accepted
+returns-in-Accepted c =
+    let answer = c.accepted.ensures in
+    let proves = proves_played c.args.game.now c.args.asked c.args.file.now c.in_ok-checked.checked (checks.Accepted c.in-Accepted.bound) c.requires.slots c.requires.weights c.in-Accepted.is c.in_ok-checked.ensures in
+    certified_file c.accepted.result c.args.asked c.args.game.now.graph c.args.file.now c.in-Accepted.bound answer.status answer.text answer.none proves c.requires.room
 
-pub returns-in-TooLong : goal.returns-in-TooLong
-returns-in-TooLong c =
+pub returns-in-Refused : goal.returns-in-Refused
+returns-in-Refused c =
     let answer = c.refused.ensures in
-    of_long c.refused.result c.args.asked c.args.game.now.graph c.args.file.now c.in-TooLong.is answer.status answer.text answer.none c.requires.room
+    let known = checks.Refused c.in-Refused.reason c.in-Refused.row in
+    let proves = proves_played c.args.game.now c.args.asked c.args.file.now c.in_ok-checked.checked known c.requires.slots c.requires.weights c.in-Refused.is c.in_ok-checked.ensures in
+    refused_file c.refused.result c.args.asked c.args.game.now.graph c.args.file.now c.in-Refused.reason c.in-Refused.row answer.status answer.text answer.none proves c.requires.room

@@ -1,7 +1,7 @@
 use Rattle.std.proofs.Common.{sym, subst, arith}
 use Rattle.comp_graph.specs.Games.{game_of}
 use Rattle.potential_cert.proofs.Places.{index_at}
-use Rattle.cert_checker.specs.Refusals.{FinishHolds}
+use Rattle.potential_cert.specs.Table.{FinishHolds}
 use Rattle.cert_checker.proofs.RowTests.{each_more}
 use Rattle.cert_checker.proofs.Checked.{each_row, first_without}
 use Rattle.cover_cert.specs.CoverTable.{plain}

@@ -1,5 +1,5 @@
 use Rattle.comp_graph.specs.Games.{game_of}
-use Rattle.cert_checker.specs.Refusals.{FinishHolds}
+use Rattle.potential_cert.specs.Table.{FinishHolds}
 use Rattle.cert_checker.proofs.RowTests.{EachBefore}
 use Rattle.cover_cert.specs.CoverTable.{plain}
 use Rattle.cover_cert.proofs.checking.first_bad_finish.Given as goal

@@ -1,4 +1,4 @@
-use Rattle.std.proofs.Common.{◌+◌, ◌∷◌, take, Some, sym, ap, ◌∙◌, subst, arith}
+use Rattle.std.proofs.Common.{◌+◌, ◌∷◌, take, Some, sym, subst, arith}
 use Rattle.potential_cert.proofs.Places.{index_at}
 use Rattle.potential_cert.proofs.Written.{take_all}
 use Rattle.cover_cert.specs.CoverMaking.{FitsFirst, IsFit, IsSooner, made_row, made_rows}

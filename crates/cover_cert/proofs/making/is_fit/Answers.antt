@@ -1,4 +1,4 @@
-use Rattle.std.proofs.Common.{refl, arith}
+use Rattle.std.proofs.Common.{arith}
 use Rattle.cover_cert.proofs.making.is_fit.Goals as goal
 
 pub returns-then-row-most : goal.returns-then-row-most

@@ -1,5 +1,5 @@
 use Rattle.std.proofs.Common.{◌++◌, [], ◌∷◌, map, sym, ap, ◌∙◌, subst}
-use Rattle.forced_bounds.specs.Lists.{IsIn}
+use Rattle.comp_graph.specs.Lists.{IsIn}
 use Rattle.potential_cert.specs.Table.{HasRow}
 use Rattle.potential_cert.proofs.Places.{at_in, index_at}
 use Rattle.cover_cert.specs.declared.making.Name.{Name}

@@ -1,4 +1,4 @@
-use Rattle.std.proofs.Common.{◌++◌, [], ◌∷◌, map, take, sym, ap, ◌∙◌}
+use Rattle.std.proofs.Common.{◌++◌, [], ◌∷◌, sym, ap, ◌∙◌}
 use Rattle.potential_cert.proofs.Places.{at_in, index_at}
 use Rattle.cover_cert.specs.CoverMaking.{numbered_name}
 use Rattle.cover_cert.proofs.MadeLists.{mapped_more}

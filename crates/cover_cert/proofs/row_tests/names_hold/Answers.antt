@@ -5,7 +5,7 @@ use Rattle.comp_graph.proofs.GraphLaws.{IsDag-dag_of}
 use Rattle.normal_steps.specs.LegalSteps.{AreLegalSteps}
 use Rattle.normal_steps.specs.StepTests.{legal_steps}
 use Rattle.potential_cert.proofs.Places.{at_one, at_below}
-use Rattle.cover_cert.proofs.RowTests.{NamesSoFar, name_at, same_legal, few_legal, from_at, names_begin, name_good, name_bad, name_later, names_end, is_equal_true}
+use Rattle.cover_cert.proofs.RowTests.{NamesSoFar, name_at, same_legal, few_legal, from_at, legal_at, names_begin, name_good, name_bad, name_later, names_end, is_equal_true}
 use Rattle.cover_cert.proofs.row_tests.names_hold.Goals.{then-next-names+then-names-next+else-not-is_covered, else-next-names, else-next-names-via-then-next-names+else-names-next, else-next-names-via-else-next-names}
 use Rattle.cover_cert.proofs.row_tests.names_hold.Goals as goal
 
@@ -16,6 +16,14 @@ loop-step-init c =
     let exact = subst (λ r. AreLegalSteps g r.position c.new-step-items.result) c.row.view_is c.new-step-items.ensures.exact in
     let same = same_legal g (IsDag-dag_of c.args.game.now.graph c.requires.game.valid) r.position c.requires.sound c.new-step-items.result exact in
     record { can_next = tt; is_finite = tt; names = names_begin g c.args.rows.now r c.into_iter-step-iterator.result (c.into_iter-step-iterator.ensures.into_iter_gives ∙ same) }
+
+pub is_covered-requires : goal.is_covered-requires
+is_covered-requires c =
+    let g = game_of c.args.game.now in
+    let r = c.args.row.now in
+    let is = subst (λ ss. NamesSoFar g c.args.rows.now r ss c.loop-step.next c.loop-step.place) c.in-Some.ensures.steps c.loop-step.invariant.names in
+    legal_at g (IsDag-dag_of c.args.game.now.graph c.requires.game.valid) r.position c.requires.sound c.in-Some.step c.loop-step.place
+    (from_at c.loop-step.place c.in-Some.step c.next.new.self (legal_steps g r.position) is.from)
 
 pub returns-then-not-is_covered : goal.returns-then-not-is_covered
 returns-then-not-is_covered c =

@@ -6,7 +6,7 @@ use Rattle.normal_steps.specs.LegalSteps.{AreLegalSteps}
 use Rattle.normal_steps.specs.StepTests.{legal_steps}
 use Rattle.cover_cert.specs.CoverTable.{IsNamed}
 use Rattle.potential_cert.proofs.Places.{at_below}
-use Rattle.cover_cert.proofs.RowTests.{StepsSoFar, same_legal, few_legal, from_at, steps_begin, steps_more, step_bad, steps_end}
+use Rattle.cover_cert.proofs.RowTests.{StepsSoFar, same_legal, few_legal, from_at, legal_at, steps_begin, steps_more, step_bad, steps_end}
 use Rattle.cover_cert.proofs.row_tests.steps_hold.Goals.{else-not-is_named-via-then-not-is_named+else-not-step_holds, else-not-is_named-via-else-not-is_named}
 use Rattle.cover_cert.proofs.row_tests.steps_hold.Goals as goal
 
@@ -17,6 +17,14 @@ loop-step-init c =
     let exact = subst (λ r. AreLegalSteps g r.position c.new-step-items.result) c.row.view_is c.new-step-items.ensures.exact in
     let same = same_legal g (IsDag-dag_of c.args.game.now.graph c.requires.game.valid) r.position c.requires.sound c.new-step-items.result exact in
     record { can_next = tt; is_finite = tt; steps = steps_begin g c.args.rows.now c.args.bound r c.into_iter-step-iterator.result (c.into_iter-step-iterator.ensures.into_iter_gives ∙ same) }
+
+pub step_holds-requires-clause-step : goal.step_holds-requires-clause-step
+step_holds-requires-clause-step c =
+    let g = game_of c.args.game.now in
+    let r = c.args.row.now in
+    let is = subst (λ ss. StepsSoFar g c.args.rows.now c.args.bound r ss c.loop-step.place) c.in-Some.ensures.steps c.loop-step.invariant.steps in
+    legal_at g (IsDag-dag_of c.args.game.now.graph c.requires.game.valid) r.position c.requires.sound c.in-Some.step c.loop-step.place
+    (from_at c.loop-step.place c.in-Some.step c.next.new.self (legal_steps g r.position) is.from)
 
 pub returns-then-not-step_holds : goal.returns-then-not-step_holds
 returns-then-not-step_holds c =

@@ -1,8 +1,7 @@
-use Rattle.std.proofs.Common.{◌*◌, ◌+◌, ◌≤◌, ◌++◌, [], ◌∷◌, List, length, length-append, sym, ap, ◌∙◌, subst, arith}
+use Rattle.std.proofs.Common.{◌*◌, ◌+◌, ◌≤◌, [], ◌∷◌, length, length-append, sym, ap, ◌∙◌, subst, arith}
 use Rattle.comp_graph.specs.Games.{game_of}
 use Rattle.comp_graph.proofs.GraphLaws.{IsDag-dag_of}
 use Rattle.branch_bound.specs.Frontiers.{best_of, store_of}
-use Rattle.cover_cert.specs.declared.making.Made.{Made}
 use Rattle.cover_cert.specs.CoverMaking.{made_rows}
 use Rattle.cover_cert.specs.CoverTurns.{AreMade, IsCoverUnderWay, row_at}
 use Rattle.cover_cert.proofs.TurnsDone.{cover_begins, cover_done, cover_expanding, cover_made, cover_sound, cover_stopped, cover_turned}
@@ -10,7 +9,7 @@ use Rattle.cover_cert.proofs.searching.run.Goals as goal
 
 pub loop-turn-init : goal.loop-turn-init
 loop-turn-init g c =
-    let begun = c.in_ok-frontier.ensures in
+    let begun = c.in_ok-frontier.ensures 0 in
     let size = begun.size in
     record {
       searching = record {

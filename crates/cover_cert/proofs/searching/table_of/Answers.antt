@@ -1,7 +1,7 @@
-use Rattle.std.proofs.Common.{◌≤◌, length, refl, sym, ap, ◌∙◌, subst, arith}
+use Rattle.std.proofs.Common.{length, sym, ap, ◌∙◌, subst, arith}
 use Rattle.comp_graph.specs.Games.{game_of}
 use Rattle.normal_steps.specs.Sound.{IsSound}
-use Rattle.forced_bounds.specs.Lists.{IsIn}
+use Rattle.comp_graph.specs.Lists.{IsIn}
 use Rattle.potential_cert.specs.Order.{precedes}
 use Rattle.potential_cert.specs.Table.{IsRising}
 use Rattle.branch_bound.specs.Frontiers.{best_of, store_of}

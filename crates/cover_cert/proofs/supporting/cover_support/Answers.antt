@@ -1,4 +1,4 @@
-use Rattle.std.proofs.Common.{◌≤◌, length, inl, refl, ap, sym, ◌∙◌, arith}
+use Rattle.std.proofs.Common.{length, ap, sym, arith}
 use Rattle.comp_graph.specs.Games.{game_of}
 use Rattle.potential_cert.proofs.Places.{index_at, at_in}
 use Rattle.cover_cert.proofs.Supports.{rows_begin, rows_next, rows_end}

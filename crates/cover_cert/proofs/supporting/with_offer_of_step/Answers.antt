@@ -1,4 +1,4 @@
-use Rattle.std.proofs.Common.{◌≡◌, ap, ◌∙◌, sym, subst, arith}
+use Rattle.std.proofs.Common.{ap, ◌∙◌, sym, subst, arith}
 use Rattle.comp_graph.specs.Games.{game_of}
 use Rattle.normal_steps.specs.Steps.{step_cost, stepped}
 use Rattle.forced_bounds.specs.Floor.{floor}

@@ -1,4 +1,4 @@
-use Rattle.std.proofs.Common.{◌≤◌, length, sym, ap, ◌∙◌, subst, arith}
+use Rattle.std.proofs.Common.{◌≤◌, length, ◌∙◌, subst, arith}
 use Rattle.comp_graph.specs.Vertices.{size}
 use Rattle.comp_graph.specs.Games.{game_of}
 use Rattle.comp_graph.proofs.GraphLaws.{IsDag-dag_of}

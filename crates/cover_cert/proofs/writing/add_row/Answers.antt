@@ -1,5 +1,5 @@
 use Rattle.std.proofs.Common.{◌∙◌, ◌^◌, ◌<◌, ap, subst}
-use Rattle.forced_bounds.specs.Lists.{IsIn}
+use Rattle.comp_graph.specs.Lists.{IsIn}
 use Rattle.cover_cert.specs.declared.tables.Cover.{Cover}
 use Rattle.cover_cert.specs.CoverBytes.{NameFits}
 use Rattle.cover_cert.proofs.writing.add_row.Goals as goal

@@ -1,5 +1,5 @@
 use Rattle.std.proofs.Common.{◌≤◌, length, sym, ap, ◌∙◌, subst}
-use Rattle.forced_bounds.specs.Lists.{IsIn}
+use Rattle.comp_graph.specs.Lists.{IsIn}
 use Rattle.cover_cert.specs.CoverBytes.{AreRowWords}
 use Rattle.cover_cert.specs.CoverTable.{CoverRowParts}
 use Rattle.cover_cert.proofs.writing.spell.Goals as goal

@@ -1,5 +1,5 @@
 -- What the search of a part answers is its bound.
-use Rattle.std.proofs.Common.{sym, ap, ◌∙◌, subst, arith}
+use Rattle.std.proofs.Common.{sym, ap, ◌∙◌, subst}
 use Rattle.comp_graph.specs.Games.{IsGame, game_of}
 use Rattle.first_plan.specs.FirstPlan.{first_steps}
 use Rattle.part_bounds.specs.Bounds.{IsPartBound}

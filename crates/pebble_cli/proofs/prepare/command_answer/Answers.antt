@@ -5,7 +5,8 @@ use Rattle.command_answers.specs.declared.answer.EarlyEnd.TheVariants.{ReadFault
 use Rattle.command_words.specs.declared.commands.Subject.TheVariants.{InputKernel, InputCode}
 use Rattle.pebble_cli.proofs.SubjectAnswers.{long_answers, told_answers, file_fault, long_code_answers, code_answers, code_file_fault, trial_answers, trial_file_fault, trial_in_limits}
 use Rattle.pebble_cli.specs.Faults.{input_limit}
-use Rattle.pebble_cli.proofs.InputRests.{idle_leaves, still_leaves, whole_within, idle_within, subject_within}
+use Rattle.answer_desk.proofs.InputRests.{idle_leaves, still_leaves, whole_within, idle_within}
+use Rattle.pebble_cli.proofs.Delivering.{subject_within}
 use Rattle.pebble_cli.proofs.prepare.command_answer.Goals as goal
 
 -- ---- a kernel

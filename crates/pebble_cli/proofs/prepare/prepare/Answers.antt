@@ -7,7 +7,7 @@ use Rattle.pebble_cli.specs.InputAnswers.{AnswersInput}
 use Rattle.command_words.specs.Words.{asked_by}
 use Rattle.std.specs.Prelude.{Some}
 use Rattle.pebble_cli.proofs.SubjectAnswers.{usage_answers}
-use Rattle.pebble_cli.proofs.InputRests.{idle_leaves}
+use Rattle.answer_desk.proofs.InputRests.{idle_leaves}
 use Rattle.pebble_cli.proofs.prepare.prepare.Goals as goal
 
 pub returns-in-None-clause-answers : goal.returns-in-None-clause-answers

@@ -1,13 +1,15 @@
 -- What the answer that was made says of the run: where it was delivered, where a write failed, and where there is none.
 use Rattle.std.proofs.Common.{◌≡◌, ◌∙◌, Err, inl, inr, refl, ap, subst, sym}
 use Rattle.desk_io.specs.Known.{file_items}
-use Rattle.pebble_cli.specs.Answers.{Answers, LastAnswers, IsAdmitted}
+use Rattle.pebble_cli.specs.Answers.{Answers, OwnAnswers, IsAdmitted}
 use Rattle.command_words.specs.Words.{asked_by}
-use Rattle.pebble_cli.proofs.AnswerLaws.{kind_of, last_always, last_only, one_answer, no_fault, usage_only, to_usage, tables_are_of_writers, refused_without_table, no_answer_without_file}
+use Rattle.pebble_cli.proofs.AnswerLaws.{kind_of, own_always, own_only, one_answer, no_fault, usage_only, to_usage, tables_are_of_writers, refused_without_table, no_answer_without_file}
 use Rattle.pebble_cli.proofs.IdleInputs.{answers_text}
-use Rattle.pebble_cli.proofs.Delivering.{cut_rose, cut_from, then_same, cut_keeps, cause_of_end, no_table_keeps, cause_rose, no_cause, end_is_yielded, end_is_no_answer, end_is_not_of_read, write_fault_is_not_of_read, end_is_fault_or_none, end_is_no_verdict, end_without_cause, answer_is_no_end, no_memory_is_no_fault, verdict_of_plan}
+use Rattle.answer_desk.proofs.Delivering.{cut_rose, cut_from, then_same, cut_keeps, no_table_keeps}
+use Rattle.answer_desk.proofs.Ends.{cause_of_end, end_is_yielded, end_is_no_answer, end_needs_no_input, write_fault_needs_no_input, end_is_fault_or_none, end_is_no_verdict, end_without_cause, answer_is_no_end, no_memory_is_no_fault}
+use Rattle.pebble_cli.proofs.Delivering.{cause_rose, no_cause, verdict_of_plan}
 use Rattle.command_answers.proofs.ToldBytes.{told_is}
-use Rattle.pebble_cli.proofs.InputRests.{still_leaves}
+use Rattle.answer_desk.proofs.InputRests.{still_leaves}
 use Rattle.pebble_cli.proofs.top.pebble.Goals as goal
 
 -- ---- the answer was delivered
@@ -25,7 +27,7 @@ returns-in-Ok-deliver-clause-own g c asked asks last =
     let told = c.in-Ok.ensures.answers in
     let answer = c.in-Ok.answer in
     let held = g.D.Desk.file c.args.desk.now in
-    let own = last_only _ _ _ _ _ _ told.2 last in
+    let own = own_only _ _ _ _ _ _ told.2 last in
     let same : own.0 ≡ asked = (let found = own.1 in cc) in
     let written = rw c.prepare.ensures.same_file at c.in-Ok-deliver.ensures.ok.written in
     let said = rw c.prepare.ensures.same_output at c.in-Ok-deliver.ensures.ok.said in (
@@ -34,7 +36,7 @@ returns-in-Ok-deliver-clause-own g c asked asks last =
       file_items answer.table,
       told.1,
       subst (λ k. IsAdmitted k told.0) same own.2,
-      subst (λ k. LastAnswers k told.0 held answer.status answer.text.items (file_items answer.table)) same own.3,
+      subst (λ k. OwnAnswers k told.0 held answer.status answer.text.items (file_items answer.table)) same own.3,
       record { written = written; said = said },
     )
 
@@ -89,7 +91,7 @@ returns-in-Ok-deliver-clause-complete g c asked text asks input admitted calm =
     let told = c.in-Ok.ensures.answers in
     let answer = c.in-Ok.answer in
     let here = answers_text (asked_by c.args.words.now) _ told.0 text (g.D.Desk.file c.args.desk.now) answer.status answer.text.items (file_items answer.table) told.1 input told.2 in
-    inl (last_always _ _ _ _ _ _ here asked asks admitted)
+    inl (own_always _ _ _ _ _ _ here asked asks admitted)
 
 pub returns-in-Ok-deliver-clause-no_vain_write : goal.returns-in-Ok-deliver-clause-no_vain_write
 returns-in-Ok-deliver-clause-no_vain_write g c other = then_same c.prepare.ensures.write_faults c.in-Ok-deliver.ensures.no_fault
@@ -110,13 +112,13 @@ returns-in-Ok-deliver-clause-file_kept g c idle =
     let none = tables_are_of_writers _ _ _ _ _ _ c.in-Ok.ensures.answers.2 (inl idle) in
     no_table_keeps _ _ _ none c.in-Ok-deliver.ensures.ok.written ∙ c.prepare.ensures.same_file
 
-pub returns-in-Ok-deliver-clause-refusals_keep : goal.returns-in-Ok-deliver-clause-refusals_keep
-returns-in-Ok-deliver-clause-refusals_keep g c early other =
+pub returns-in-Ok-deliver-clause-kept_by_status : goal.returns-in-Ok-deliver-clause-kept_by_status
+returns-in-Ok-deliver-clause-kept_by_status g c early other =
     let none = tables_are_of_writers _ _ _ _ _ _ c.in-Ok.ensures.answers.2 (inr early) in
     no_table_keeps _ _ _ none c.in-Ok-deliver.ensures.ok.written ∙ c.prepare.ensures.same_file
 
-pub returns-in-Ok-deliver-clause-refused_keep : goal.returns-in-Ok-deliver-clause-refused_keep
-returns-in-Ok-deliver-clause-refused_keep g c asked text asks input refused =
+pub returns-in-Ok-deliver-clause-kept_by_input : goal.returns-in-Ok-deliver-clause-kept_by_input
+returns-in-Ok-deliver-clause-kept_by_input g c asked text asks input refused =
     let told = c.in-Ok.ensures.answers in
     let answer = c.in-Ok.answer in
     let here = answers_text (asked_by c.args.words.now) _ told.0 text (g.D.Desk.file c.args.desk.now) answer.status answer.text.items (file_items answer.table) told.1 input told.2 in
@@ -137,7 +139,7 @@ returns-clause-write_fault g c fault =
     (text.0, answer.text.items, file_items answer.table, answer.status, text.1, text.2, cut)
 
 pub returns-clause-own : goal.returns-clause-own
-returns-clause-own g c asked asks last = write_fault_is_not_of_read (inr last)
+returns-clause-own g c asked asks last = write_fault_needs_no_input (inr last)
 
 pub returns-clause-determined : goal.returns-clause-determined
 returns-clause-determined g c text status printed table input file h =
@@ -162,15 +164,15 @@ returns-clause-calm g c calm =
     absurd (calm rose.0 rose.1)
 
 pub returns-clause-read_whole : goal.returns-clause-read_whole
-returns-clause-read_whole g c reads read = write_fault_is_not_of_read read
+returns-clause-read_whole g c reads read = write_fault_needs_no_input read
 
 pub returns-clause-file_kept : goal.returns-clause-file_kept
 returns-clause-file_kept g c idle =
     let none = tables_are_of_writers _ _ _ _ _ _ c.in-Ok.ensures.answers.2 (inl idle) in
     cut_keeps g.D.Desk.file g.D.Desk.output g.D.Desk.faults _ _ _ _ none c.in-Err-deliver.ensures.fault ∙ c.prepare.ensures.same_file
 
-pub returns-clause-refused_keep : goal.returns-clause-refused_keep
-returns-clause-refused_keep g c asked text asks input refused =
+pub returns-clause-kept_by_input : goal.returns-clause-kept_by_input
+returns-clause-kept_by_input g c asked text asks input refused =
     let told = c.in-Ok.ensures.answers in
     let answer = c.in-Ok.answer in
     let here = answers_text (asked_by c.args.words.now) _ told.0 text (g.D.Desk.file c.args.desk.now) answer.status answer.text.items (file_items answer.table) told.1 input told.2 in
@@ -192,7 +194,7 @@ pub returns-in-Err-clause-headline : goal.returns-in-Err-clause-headline
 returns-in-Err-clause-headline g c asked asks verdict = end_is_no_verdict _ _ c.in-Err.ensures.refusal verdict
 
 pub returns-in-Err-clause-own : goal.returns-in-Err-clause-own
-returns-in-Err-clause-own g c asked asks last = end_is_not_of_read _ _ c.in-Err.ensures.refusal (inr last)
+returns-in-Err-clause-own g c asked asks last = end_needs_no_input _ _ c.in-Err.ensures.refusal (inr last)
 
 pub returns-in-Err-clause-determined : goal.returns-in-Err-clause-determined
 returns-in-Err-clause-determined g c text status printed table input file h =
@@ -205,7 +207,7 @@ pub returns-in-Err-clause-usage : goal.returns-in-Err-clause-usage
 returns-in-Err-clause-usage g c none = inr (inr (end_without_cause _ _ (no_cause none) c.in-Err.ensures.refusal))
 
 pub returns-in-Err-clause-read_whole : goal.returns-in-Err-clause-read_whole
-returns-in-Err-clause-read_whole g c reads read = end_is_not_of_read _ _ c.in-Err.ensures.refusal read
+returns-in-Err-clause-read_whole g c reads read = end_needs_no_input _ _ c.in-Err.ensures.refusal read
 
 pub returns-in-Err-clause-complete : goal.returns-in-Err-clause-complete
 returns-in-Err-clause-complete g c asked text asks input admitted calm =

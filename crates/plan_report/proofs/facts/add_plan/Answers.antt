@@ -15,6 +15,6 @@ returns c =
     let cost = more (codes "cost") (decimal f.cost) first refl c.in_ok-add_number-2.ensures in
     let bound = more (codes "bound") (decimal f.bound) cost refl c.in_ok-add_number-3.ensures in
     let expanded = more (codes "expanded") (decimal f.expanded) bound refl c.in_ok-add_number-4.ensures in
-    let budget = more (codes "budget") (decimal f.budget) expanded refl c.in_ok-add_number-5.ensures in
-    let verdict = more (codes "verdict") (verdict_word f.optimal) budget (c.as_bytes.ensures.value ∙ c.verdict_word.ensures) c.in_ok-add_remark.ensures in
+    let limit = more c.args.name.now (decimal c.args.limit) expanded refl c.in_ok-add_number-5.ensures in
+    let verdict = more (codes "verdict") (verdict_word f.optimal) limit (c.as_bytes.ensures.value ∙ c.verdict_word.ensures) c.in_ok-add_remark.ensures in
     verdict.same

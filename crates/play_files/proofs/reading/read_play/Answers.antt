@@ -2,7 +2,7 @@
 use Rattle.std.proofs.Common.{◌≡◌, length, sym, ap, subst, arith}
 use Rattle.std.proofs.lemmas.List.{nil_from_length}
 use Rattle.line_texts.specs.Steps.{IsPassed, IsRefused, IsLineAnswer}
-use Rattle.play_files.specs.Reading.{state_of, Step}
+use Rattle.play_files.specs.Reading.{state_of, IsNextLine}
 use Rattle.play_files.proofs.Reader.{IsReadUpTo, first_line, line_read, bad_line, bad_last, bad_end, all_read}
 use Rattle.line_texts.proofs.Fronts.{shorter}
 use Rattle.play_files.proofs.reading.read_play.Goals as goal
@@ -16,15 +16,15 @@ lines-init c = record {
 
 pub returns-in-Ok-false : goal.returns-in-Ok-false
 returns-in-Ok-false c =
-    let refused : IsRefused (Step c.args.vertices) (state_of c.lines.draft) c.in-Some.next.now
-    = subst (λ b. IsLineAnswer (Step c.args.vertices) b (state_of c.lines.draft) c.in-Some.next.now (state_of c.read_line.new.self)) c.in-Ok-false.field-0-test c.in-Ok-false.ensures in
+    let refused : IsRefused (IsNextLine c.args.vertices) (state_of c.lines.draft) c.in-Some.next.now
+    = subst (λ b. IsLineAnswer (IsNextLine c.args.vertices) b (state_of c.lines.draft) c.in-Some.next.now (state_of c.read_line.new.self)) c.in-Ok-false.field-0-test c.in-Ok-false.ensures in
     let few = c.lines.invariant.few in
     bad_line c.args.vertices few c.args.text.now c.lines.rest.now c.lines.line (state_of c.lines.draft) (c.lines.invariant.up few) c.in-Some.next.now c.in-Some.after.now c.in-Some.ensures refused
 
 pub lines-preserved : goal.lines-preserved
 lines-preserved c =
-    let passed : IsPassed (Step c.args.vertices) (state_of c.lines.draft) c.in-Some.next.now (state_of c.read_line.new.self)
-    = subst (λ b. IsLineAnswer (Step c.args.vertices) b (state_of c.lines.draft) c.in-Some.next.now (state_of c.read_line.new.self)) c.in-Ok-true.field-0-test c.in-Ok-true.ensures in
+    let passed : IsPassed (IsNextLine c.args.vertices) (state_of c.lines.draft) c.in-Some.next.now (state_of c.read_line.new.self)
+    = subst (λ b. IsLineAnswer (IsNextLine c.args.vertices) b (state_of c.lines.draft) c.in-Some.next.now (state_of c.read_line.new.self)) c.in-Ok-true.field-0-test c.in-Ok-true.ensures in
     let less = shorter c.lines.rest.now c.in-Some.next.now c.in-Some.after.now c.in-Some.ensures in
     let room = c.lines.invariant.small in
     record {

@@ -1,0 +1,2 @@
+-- What it takes to open a ledger for steps.
+pub mod Openings
