@@ -1,9 +1,9 @@
 #!/bin/sh
 # Plans each kernel of kernels/ with three numbers of slots, has the program check the tables that it wrote, prints its graph, and runs it
 # and its code on ten lists of values. Checks the report, the code, the table, the outputs, the graph and the exit statuses against
-# tools/run_code.py, the outputs of `run` against those of `exec` and, where there is a gcc, of the code as a C function
+# tools/run_code.py, the outputs of `run` against those of `exec` and, if there is a gcc, of the code as a C function
 # (tools/code_to_c.py), the costs of a cache against tools/compare_cache.py, and docs/KERNELS.md and the tests of crates/worked_kernels
-# against the kernels. The exit status is 0 where all agrees, or where there is no python3 to check with. PEBBLE names another program than
+# against the kernels. The exit status is 0 if all agrees, or if there is no python3 to check with. PEBBLE names another program than
 # the one at the top of the repository.
 here=$(CDPATH='' cd -- "$(dirname -- "$0")/.." && pwd) || exit 1
 pebble=${PEBBLE:-$("$here/tools/current_program")}
@@ -25,7 +25,7 @@ differs() {
     result=1
 }
 
-# Compiles the code in the file `code` to the program `compiled`, or leaves none where there is no gcc.
+# Compiles the code in the file `code` to the program `compiled`, or leaves none if there is no gcc.
 compile() {
     command -v gcc >/dev/null 2>&1 || return 0
     python3 "$here/tools/code_to_c.py" kernel main <"$folder/code" >"$folder/kernel.c" &&
@@ -75,4 +75,5 @@ for kernel in "$here"/kernels/*.kernel; do
         run_on "$kernel" "$vector"
     done
 done
+[ "${result:-0}" -ne 0 ] || echo "check_kernels: plans, codes, tables, graphs and runs of all kernels agree"
 exit "${result:-0}"

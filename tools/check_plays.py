@@ -1,8 +1,8 @@
 #!/usr/bin/env python3
-"""Checks `pebble judge` and `pebble tidy` against the rules of docs/GAME.md and docs/FORMATS.md, which stand here a second time.
+"""Checks `pebble judge` and `pebble tidy` against the rules of docs/GAME.md and docs/FORMATS.md, which are written here a second time.
 
   check_plays.py [COUNT [SEED]]
-      makes COUNT plays (1000 where it is left out) of small kernels, and has each judged and tidied: complete ones with moves that are
+      makes COUNT plays (1000 if it is left out) of small kernels, and has each judged and tidied: complete ones with moves that are
       for nothing, ones that stop too early, ones with a move that is not allowed, and texts with a line that is none. What `judge` prints
       and its status are to be what the rules say. `tidy` is to say the same of a play that is not complete. Of one that is, its code is to
       have the kernel's outputs on random values, to cost what it says and no more than the play, and to be a complete pebbling that
@@ -10,8 +10,8 @@
       fixed ones, with their answers written here.
 
 The kernels are those of kernels/ with at most 24 vertices, the first trial kernels, and ones that are made up with the plays. What they
-compute is worked out by tools/run_code.py, and the plays are made with the help of tools/play. Python 3 alone is needed. The exit status is
-0 where all agrees, 1 where something does not (it is printed), and 2 for other words. PEBBLE names another program than the one at the top
+compute is worked out by tools/run_code.py, and the plays are made with the help of tools/play. Only Python 3 is needed. The exit status is
+0 if all agrees, 1 if something does not (it is printed), and 2 for other words. PEBBLE names another program than the one at the top
 of the repository.
 """
 import glob
@@ -30,6 +30,7 @@ TOP = os.path.dirname(os.path.dirname(os.path.abspath(__file__)))
 sys.path.insert(0, os.path.join(TOP, 'tools'))
 import run_code
 from check_trials import trial_text
+from pebbletools.texts import Graph, Vertex  # run_code has set the path
 
 PEBBLE = run_code.program()
 DONE, KERNEL, TOO_SMALL, READ_FAULT, PLAY = 0, 3, 4, 6, 12  # statuses
@@ -59,7 +60,7 @@ class NotAllowed(Exception):
 
 
 class Position:
-    """Where the pebbles stand, and what it cost."""
+    """Where the pebbles are, and what it cost."""
 
     def __init__(self, trace, slots):
         self.trace, self.slots, self.cost = trace, slots, 0
@@ -150,7 +151,7 @@ def case_of(source):
     kernel = run_code.kernel_of(source.encode())
     trace = run_code.trace_of(kernel)
     outputs = list(zip(run_code.elements_of(kernel, 'out'), trace.outputs))
-    return Case(source, kernel, trace, play.Graph(run_code.elements_of(kernel, 'in'), [tuple(line.split()) for line in trace.lines], outputs))
+    return Case(source, kernel, trace, Graph([Vertex(words[0], words[1:]) for words in map(str.split, trace.lines)], outputs))
 
 
 def made_up(dice):
@@ -294,7 +295,7 @@ def demand_tidied(case, slots, moves, cost, text):
     """Checks the text of the tidied plan of moves that cost so much."""
     found = re.fullmatch(rf'; play {cost}\n; cost (0|[1-9][0-9]*)\n(slots .*)\n', text, re.DOTALL)
     run_code.demand(found and int(found.group(1)) <= cost, f'the play costs {cost}, and the first two lines are others')
-    code = run_code.read_code(found.group(2).split('\n'))
+    code = run_code.read_code_lines(found.group(2).split('\n'))
     run_code.demand(code.slots == slots, f'the code has {code.slots} slots')
     dice = random.Random(text)
     values = [dice.randint(run_code.LEAST, run_code.GREATEST) for _ in code.inputs]
@@ -316,11 +317,11 @@ def faults(case, slots, data, path):
     wanted = answer_to(case, slots, data)
     given = ask(['judge', str(slots), path], case.source)
     if given != wanted:
-        yield f'judge: {wanted} is wanted, and it is {given}'
+        yield f'judge: expected {wanted}, got {given}'
     given = ask(['tidy', str(slots), path], case.source)
     if wanted.status != DONE:
         if given != wanted:
-            yield f'tidy: {wanted} is wanted, and it is {given}'
+            yield f'tidy: expected {wanted}, got {given}'
         return
     try:
         run_code.demand(given.status == DONE, f'the status is {given.status}')
@@ -365,7 +366,7 @@ def fixed_faults(folder):
             if command == 'tidy' and status == DONE:
                 wanted = Answer(DONE, '; play 4\n; cost 2\nslots 2\nwords 2\nin x\nout y 1\nload 0 0\nadd 1 s0 #1\nstore 1 1\nend\n')
             if given != wanted:
-                yield f'{source} with {slots} slots, {data if data is None else data[:60]}: {command}: {wanted} is wanted, and it is {given}'
+                yield f'{source} with {slots} slots, {data if data is None else data[:60]}: {command}: expected {wanted}, got {given}'
 
 
 def sort_of(answer):

@@ -2,12 +2,12 @@
 """Checks `pebble trial` against `pebble graph` and `pebble plan` on the texts of the trial kernels.
 
   check_trials.py [FROM TO]
-      makes the trial kernel of each number of statements from FROM to TO (1 and 200 where they are left out) from its description in
+      makes the trial kernel of each number of statements from FROM to TO (1 and 200 if they are left out) from its description in
       docs/KERNELS.md, and plans it with 3 and with 6 slots: by `trial`, and as a text by `plan` with the budget 2000. The numbers, the verdict
       and the bytes of the table are to be the same, the graph is to have 16 inputs and a vertex more for each statement, and with as many slots
       as its degree `trial` is to ask for one more.
 
-The texts share no line with the program. Python 3 alone is needed. The exit status is 0 where all agrees, 1 where something does not (one
+The texts share no line with the program. Only Python 3 is needed. The exit status is 0 if all agrees, 1 if something does not (one
 line says what), and 2 for other words. PEBBLE names another program than the one at the top of the repository.
 """
 import os
@@ -21,7 +21,7 @@ MOST = 200
 
 
 def pool(number):
-    """The element of the pool with this number: the 16 inputs, and behind them the temporaries."""
+    """The element of the pool with this number: the 16 inputs, and after them the temporaries."""
     if number < 16:
         return f"x[{number}]"
     row, column = (number - 16) % 64, (number - 16) // 64
@@ -97,6 +97,8 @@ def main(words):
             for fault in faults(statements, os.path.join(folder, "table")):
                 print(f"trial {statements}: {fault}")
                 result = 1
+    if not result:
+        print(f"check_trials: the trial kernels {first} to {last} agree")
     return result
 
 

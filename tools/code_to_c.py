@@ -4,26 +4,26 @@
   code_to_c.py NAME <CODE
       prints a C file with the function `void NAME(const int64_t *in, int64_t *out)`
   code_to_c.py NAME main <CODE
-      prints the same with a `main` behind it, which reads a number for each input from standard input and prints the lines that
+      prints the same with a `main` after it, which reads a number for each input from standard input and prints the lines that
       `pebble exec` prints, but for the last one
 
 CODE is a code text: what `pebble plan` prints, or a text by docs/FORMATS.md. In the function the slots are one small array and the words
 another, and each instruction is one statement with its text beside it. Arithmetic wraps at 64 bits: it is done on unsigned numbers. The
-inputs and outputs stand in the order of the code, and a comment names each.
+inputs and outputs are in the order of the code, and a comment names each.
 
-Python 3 alone is needed. The exit status is 0; 1 where the input is no code text, or where it reads a slot or a word that is empty (one
+Only Python 3 is needed. The exit status is 0; 1 if the input is not a code text, or reads an empty slot or word (one
 line says what); and 2 for other words.
 """
 import re
 import sys
 
 sys.dont_write_bytecode = True
-from run_code import Disagrees, LEAST, demand, read_code, run
+from run_code import run  # which also finds pebbletools
+from pebbletools.texts import LEAST, TextError, read_code
 
 WRAPPING = {'add': '+', 'sub': '-', 'mul': '*'}
 BITWISE = {'and': '&', 'or': '|', 'xor': '^'}
 TWICE_READ = {'min': '<', 'max': '>'}
-FAULT_LINE = re.compile(r'(?:kernel|code|values|exec|play) (?:fault|incomplete)|too small needs|refused reason|usage: pebble')
 KEYWORDS = set('auto break case char const continue default do double else enum extern float for goto if inline int long register restrict '
                'return short signed sizeof static struct switch typedef union unsigned void volatile while main in out slot word'.split())
 
@@ -68,21 +68,13 @@ def statement(instruction):
     return f'slot[{slot}] = {value_of(name, [operand(source) for source in rest])};'
 
 
-def text_of(instruction):
-    """The line of an instruction."""
-    name, slot, rest = instruction
-    if name in ('load', 'store'):
-        return f'{name} {slot} {rest}'
-    return ' '.join([name, str(slot)] + [f's{value}' if kind == 'slot' else f'#{value}' for kind, value in rest])
-
-
 def function(name, code, transfers):
     lines = ['#include <stdint.h>', '',
              f'/* {code.slots} slots of fast memory, {code.words} words of slow memory, {transfers} transfers. */',
              f'void {name}(const int64_t *in, int64_t *out)', '{', f'    int64_t slot[{code.slots}];', f'    int64_t word[{max(code.words, 1)}];',
              '    (void)in, (void)out, (void)slot, (void)word;', '']
     lines += [f'    word[{k}] = in[{k}]; /* in {label} */' for k, label in enumerate(code.inputs)]
-    lines += [f'    {statement(instruction)} /* {text_of(instruction)} */' for instruction in code.instructions]
+    lines += [f'    {statement(instruction)} /* {instruction.text()} */' for instruction in code.instructions]
     lines += [f'    out[{k}] = word[{word}]; /* out {label} */' for k, (label, word) in enumerate(code.outputs)]
     return lines + ['}']
 
@@ -101,13 +93,9 @@ def main(words):
         print(__doc__, file=sys.stderr)
         return 2
     try:
-        text = sys.stdin.buffer.read().decode()
-        demand(not FAULT_LINE.match(text), f'this is what pebble printed at a fault, and no code: {text[:60].strip()}')
-        demand(text == '' or text.endswith('\n'), 'the last line does not end')
-        code = read_code([line for line in text.split('\n')[:-1] if not line.startswith(';')])
-        demand(len(code.inputs) <= code.words, 'there are more inputs than words')
+        code = read_code(sys.stdin.buffer.read().decode())
         _, transfers = run(code, [0] * len(code.inputs))
-    except (Disagrees, UnicodeError) as error:
+    except (TextError, UnicodeError) as error:
         print(f'code_to_c: {error}', file=sys.stderr)
         return 1
     lines = function(words[0], code, transfers) + (harness(words[0], code) if words[1:] else [])

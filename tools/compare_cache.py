@@ -2,12 +2,12 @@
 """Compares a write-back cache with plans, on the kernels of kernels/ with three numbers of slots each: docs/KERNELS.md, "Beside a cache".
 
   compare_cache.py table    prints the rows and the last sentence of that section. The cache's costs are worked out here, by the rules of
-                            docs/CACHE.md; the plans' costs and bounds are those that `pebble plan` prints
+                            docs/BOUNDS.md; the plans' costs and bounds are those that `pebble plan` prints
   compare_cache.py check    runs `pebble cache` for each of them. Its numbers of loads, stores and hits are to be those of the rules, its
                             bound is to be at most the plan's cost and the cache's, and docs/KERNELS.md is to have these rows and sentence
 
-The plans have the budget that the program takes where none is named. Python 3 alone is needed. The exit status is 0 where all agrees, 1
-where something does not (it is printed), and 2 for other words. PEBBLE names another program than the one at the top of the repository.
+The plans have the budget that the program takes if none is named. Only Python 3 is needed. The exit status is 0 if all agrees, 1
+if something does not (it is printed), and 2 for other words. PEBBLE names another program than the one at the top of the repository.
 """
 import glob
 import math
@@ -73,14 +73,14 @@ def compared(path, kernel, slots, table):
     costs = Costs(cache.loads + cache.stores, *map(int, last.groups() if last else (0, 0)))
     wanted = (f'cache loads {cache.loads}\ncache stores {cache.stores}\ncache hits {cache.hits}\ncache cost {costs.cache}\n'
               f'plan cost {costs.plan} bound {costs.bound}\n')
-    run_code.demand(text == wanted, f'{kernel.name} with {slots} slots: {wanted!r} is wanted, and it is {text!r}')
+    run_code.demand(text == wanted, f'{kernel.name} with {slots} slots: expected {wanted!r}, got {text!r}')
     run_code.demand(costs.bound <= min(costs.plan, costs.cache), f'{kernel.name} with {slots} slots: the bound is above a cost')
     run_code.demand((status == OPTIMAL) == (costs.plan == costs.bound), f'{kernel.name} with {slots} slots: the status is {status}')
     return costs
 
 
 def section(costs_of):
-    """The rows of the table, and the sentence behind it."""
+    """The rows of the table, and the sentence after it."""
     rows, shares = [], []
     with tempfile.TemporaryDirectory() as folder:
         for path in sorted(glob.glob(os.path.join(TOP, 'kernels', '*.kernel'))):

@@ -7,7 +7,7 @@ It looks at names alone and at texts byte by byte, and works nothing out: that t
   table of outputs, and says how many kernels there are.
 - The tests in crates/worked_kernels/src/gallery have each file's text and no other, and run each kernel on the inputs that docs/KERNELS.md
   shows.
-Ends with 0 where all agrees, and else with 1 and a line for each difference.
+Ends with 0 if all agrees, and otherwise with 1 and a line for each difference.
 """
 import glob
 import os
@@ -72,7 +72,7 @@ def compare_tests(texts, page, source):
     titles = {constant: title.group(1) for constant, text in copies.items() if (title := re.search(r'^kernel (\w+)', text, re.MULTILINE))}
     run = sorted((titles[constant], values) for constant, runs in RUNS.findall(source) for values in RUN.findall(runs))
     for name, values in sorted(set(shown) ^ set(run)):
-        yield f'{name} on {values}: stands either in docs/KERNELS.md or in crates/worked_kernels, and not in both'
+        yield f'{name} on {values}: is only in one of docs/KERNELS.md and crates/worked_kernels'
 
 
 def main():

@@ -1,14 +1,14 @@
 """Words, kernels, codes, tables, covered tables, plays and values files that are made to break the program, each with its one right answer.
 
 The answers come from the rules alone: a fault of a kernel is where the text was spoiled (tools/hostile_kernels.py), and other answers are
-worked out by tools/reckon.py and tools/run_code.py, or stand here by hand. None of them shares a line with the program. tools/harden runs
+worked out by tools/reckon.py and tools/run_code.py, or written here by hand. None of them shares a line with the program. tools/harden runs
 the cases; `python3 tools/hostile_corpus.py` counts them.
 """
 import itertools
 from collections import Counter, namedtuple
 
 import reckon
-from hostile_kernels import CHAIN, DOT, KNOT, P, faulty_kernels, sound_kernels, written_kernels
+from hostile_kernels import P, faulty_kernels, sound_kernels, written_kernels
 
 # A code with a line of each kind.
 EVERY_LINE = (b'; any bytes\nslots 3\nwords 4\nin x\nin A[0][63]\nout y 2\nload 0 0\nload 1 1\nset 2 #-1\nadd 2 s0 s2\nsub 2 #10 s2\n'
@@ -17,8 +17,9 @@ EVERY_LINE = (b'; any bytes\nslots 3\nwords 4\nin x\nin A[0][63]\nout y 2\nload 
 CHAIN_CODE = (b'slots 3\nwords 4\nin x\nout y 3\nload 0 0\nadd 1 s0 #1\nadd 2 s0 #2\nmul 0 s1 s2\nstore 2 1\nstore 1 2\nload 1 0\n'
               b'add 2 s1 #3\nmul 1 s0 s2\nload 0 2\nmul 2 s1 s0\nload 0 1\nmul 1 s2 s0\nstore 1 3\nend\n')
 
-# A command, its words on the usage line, in the order of that line, and words that spell it.
-Command = namedtuple('Command', 'name usage words')
+# A command, its words on the usage line of its program, in the order of that line, and words that spell it.
+Command = namedtuple('Command', 'name usage words program')
+Command.__new__.__defaults__ = ('pebble',)
 COMMANDS = [
     Command('plan', 'plan S TABLE [BUDGET [A B]]', 'plan 2 t'),
     Command('check', 'check S TABLE [A B]', 'check 2 t'),
@@ -32,24 +33,27 @@ COMMANDS = [
     Command('judge', 'judge S PLAY', 'judge 2 t'),
     Command('tidy', 'tidy S PLAY', 'tidy 2 t'),
     Command('cache', 'cache S TABLE [BUDGET]', 'cache 2 t'),
+    Command('improve', 'improve S FILE [EFFORT [A B]]', 'improve 2 t', 'improve'),
+    Command('confirm', 'confirm S FILE [A B]', 'confirm 2 t', 'improve'),
 ]
 
 ALL_COMMANDS = {command.name for command in COMMANDS}
 
 # Those that answer a fault of their kernel, beside `graph`.
 KERNEL_COMMANDS = [
-    'plan', 'run', 'check', 'cover', 'covercheck', 'parts', 'judge', 'tidy', 'cache']
+    'plan', 'run', 'check', 'cover', 'covercheck', 'parts', 'judge', 'tidy', 'cache', 'improve', 'confirm']
 
 AS_BEFORE = object()                   # the file after a run
 AS_LEFT = object()                     # the file before a run: what the run before left
 OLD = b'what stood in the file before'
 
-Case = namedtuple('Case', 'name words given held status output after')
+# A run and its answer; program is a name, or None for the program that has the command.
+Case = namedtuple('Case', 'name words given held status output after program')
 Large = namedtuple('Large', 'name words given held statuses')
 
 
-def case(name, words, given, held, answer, after=AS_BEFORE):
-    return Case(name, words, given, held, *answer, after)
+def case(name, words, given, held, answer, after=AS_BEFORE, program=None):
+    return Case(name, words, given, held, *answer, after, program)
 
 
 # ---- words and kernels
@@ -68,14 +72,30 @@ NO_WORDS = [
     'cache 2 t 5 1 1']
 
 
+# The same for the program improve.
+NO_IMPROVE_WORDS = [
+    '', ' ', '--help', '--version', 'IMPROVE 2 t', 'Improve 2 t', 'plan 2 t', 'check 2 t', 'graph', 'run t', 'improve', 'improve 2', 'improve 2 ',
+    'improve  t', 'improve 0 t', 'improve 65 t', 'improve 02 t', 'improve +2 t', 'improve -2 t', 'improve 2. t', 'improve \u0662 t',
+    'improve 4294967298 t', 'improve 18446744073709551618 t', 'improve 2 t -1', 'improve 2 t 201', 'improve 2 t 00', 'improve 2 t 020',
+    'improve 2 t 4294967296', 'improve 2 t 18446744073709551636', 'improve 2 t ', 'improve 2 t 5 1', 'improve 2 t 5 0 1', 'improve 2 t 5 1 0',
+    'improve 2 t 5 17 1', 'improve 2 t 5 1 17', 'improve 2 t 5 01 1', 'improve 2 t 5 1 257', 'improve 2 t 5 1 1 1', 'improve 2 t  1 1',
+    'improve 2 t 5 1 \u0661', 'confirm', 'confirm 2', 'confirm 2 ', 'confirm 0 t', 'confirm 65 t', 'confirm 2 t 1', 'confirm 2 t 0 1',
+    'confirm 2 t 1 17', 'confirm 2 t 1 1 1', 'confirm 2 t 20', 'improve\n', '\u00e9', 'x' * 120000, 'improve ' + '2' * 100000 + ' t',
+    'improve 2 t ' + '0' * 100000]
+
+
 def word_cases(commands):
-    usage = 2, ('usage: pebble ' + ', '.join(command.usage for command in COMMANDS if command.name in commands) + '\n').encode()
-    for line in NO_WORDS:
-        yield case(f'words {line[:40]!r}', line.split(' '), P, OLD, usage)
-    yield case('no words', [], P, OLD, usage)
-    yield case('3,000 words', ['plan'] * 3000, P, OLD, usage)
-    yield case('a word that is no UTF-8', [b'run', b'\xff'], P, OLD, (13, b''))
-    yield case('no command, no UTF-8', [b'\xc3'], P, OLD, (13, b''))
+    for program, lines in (('pebble', NO_WORDS), ('improve', NO_IMPROVE_WORDS)):
+        usages = [command.usage for command in COMMANDS if command.name in commands and command.program == program]
+        if not usages:
+            continue
+        usage, first = (2, f'usage: {program} {", ".join(usages)}\n'.encode()), 'plan' if program == 'pebble' else 'improve'
+        for line in lines:
+            yield case(f'words {line[:40]!r}', line.split(' '), P, OLD, usage, program=program)
+        yield case('no words', [], P, OLD, usage, program=program)
+        yield case('3,000 words', [first] * 3000, P, OLD, usage, program=program)
+        yield case('a word that is no UTF-8', [first, b'2', b'\xff'], P, OLD, (13, b''), program=program)
+        yield case('no command, no UTF-8', [b'\xc3'], P, OLD, (13, b''), program=program)
 
 
 EMPTY_PLAN = (b'; kernel e\n; vertices 0\n; inputs 0\n; degree 0\n; slots 64\n; load 16\n; store 1\n; first 0\n; cost 0\n'
@@ -99,10 +119,17 @@ def kernel_cases(commands):
             small = 4, b'too small needs %d\n' % (degree + 1)
             yield case(f'too few slots for sound kernel {number}', f'plan {degree} t', text, OLD, small)
             yield case(f'too few slots to check sound kernel {number}', f'check {degree} t', text, None, small)
+            if 'improve' in commands:
+                yield case(f'too few slots to improve sound kernel {number}', f'improve {degree} t', text, OLD, small)
+                yield case(f'too few slots to confirm sound kernel {number}', f'confirm {degree} t', text, None, small)
     for number, (text, graph) in enumerate(written_kernels()):
         yield case(f'written kernel {number}', 'graph', text, OLD, (0, graph))
     yield case('the empty kernel planned', 'plan 64 t 150000 16 1', b'kernel e { }', OLD, (0, EMPTY_PLAN),
                bytes.fromhex('5242505400020000004010010000000000000000'))
+    if 'improve' in commands:
+        improved = EMPTY_PLAN.replace(b'budget 150000', b'effort 200')
+        yield case('the empty kernel improved', 'improve 64 t 200 16 1', b'kernel e { }', OLD, (0, improved),
+                   bytes.fromhex('5242505400020000004010010000000000000000'))
 
 
 # ---- codes
@@ -216,7 +243,7 @@ def values_cases():
 # ---- tables and covered tables
 
 def table(vertices, slots, bound, rows=(), version=1, weights=b'', count=None, name=b'RBPT'):
-    """The bytes of a table whose rows are its cost, red and blue numbers, and names where it is a covered one."""
+    """The bytes of a table whose rows are its cost, red and blue numbers, and names if it is a covered one."""
     words = (vertices + 63) // 64
     data = name + b''.join(number.to_bytes(2, 'big') for number in (version, vertices, slots)) + weights
     data += bound.to_bytes(4, 'big') + (len(rows) if count is None else count).to_bytes(4, 'big')
@@ -253,10 +280,12 @@ def tables():
         yield from (table(2, 2, bound, rows) for bound in (0, 2, 3, 2 ** 32 - 1))
 
 
-def table_cases():
+def table_cases(commands):
     game = reckon.game_of(P, 2)
     for number, data in enumerate(tables()):
         yield case(f'table {number}', 'check 2 t', P, data, reckon.check_answer(game, data))
+        if 'confirm' in commands:
+            yield case(f'table {number} to confirm', 'confirm 2 t', P, data, reckon.check_answer(game, data, confirmed=True))
     wide = b'kernel f { in A[64][4]; out y; y = A[63][3]; }'
     game, full = reckon.game_of(wide, 1), 2 ** 256 - 1
     for rows in ([], [(0, 0, full)], [(0, 1, full), (0, 2, full)], [(0, 2, full), (0, 1, full)], [(0, 2 ** 192, full), (0, 1, full)],
@@ -277,6 +306,14 @@ def table_cases():
     yield case('no table file', 'check 2 t', P, None, (6, b''))
     yield case('no table file, and no kernel', 'check 2 t', b'?', None, (3, b'kernel fault K1 at 0\n'))
     yield case('a folder for a table', 'check 2 room', P, OLD, (6, b''))
+    if 'confirm' in commands:
+        yield case('a byte more than the limit, to confirm', 'confirm 2 t', P,
+                   (table(2, 2, 2, count=999_999) + row * 999_999).ljust(limit + 1, b'\0'), refused)
+        yield case('no file to confirm', 'confirm 2 t', P, None, (6, b''))
+        yield case('a folder to confirm', 'confirm 2 room', P, OLD, (6, b''))
+        yield case('a folder would be written by improve', 'improve 2 room', P, OLD, (7, b''))
+        yield case('a certificate in no folder', 'improve 2 none/t', P, OLD, (7, b''))
+        yield case('a device that is full for a certificate', 'improve 2 /dev/full', P, OLD, (7, b''))
 
 
 def covered_tables():
@@ -339,7 +376,7 @@ def play_cases(commands):
 
 def cases(commands):
     """The cases for a program with these commands."""
-    yield from itertools.chain(word_cases(commands), kernel_cases(commands), code_cases(), values_cases(), table_cases())
+    yield from itertools.chain(word_cases(commands), kernel_cases(commands), code_cases(), values_cases(), table_cases(commands))
     if 'covercheck' in commands:
         yield from cover_cases()
     yield from play_cases(commands)
@@ -419,6 +456,11 @@ def largest():
     yield Large('covered, 256 vertices, 64 slots', 'cover 64 t 8000', rounds, OLD, (0, 5))
     yield Large('parts, 256 vertices', 'parts 64 16 t 8000', rounds, OLD, (0,))
     yield Large('a cache beside a plan', 'cache 64 t 0', rounds, OLD, (0, 5))
+    yield Large('improved, 256 vertices, 64 slots', 'improve 64 t 200', rounds, OLD, (0, 5))
+    yield Large('improved, 256 vertices, 6 slots', 'improve 6 t 200', rounds, OLD, (0, 5))
+    yield Large('its certificate', 'confirm 6 t', rounds, AS_LEFT, (0,))
+    yield Large('improved, 100 vertices, 6 slots', 'improve 6 t 200', far_back(84), OLD, (0, 5))
+    yield Large('the same with the usual effort', 'improve 6 t', far_back(84), OLD, (0, 5))
     moves = b'load 0\n' * ((limit - 30) // 7) + b'compute 1\nstore 1\nend\n'
     yield Large('the longest play', 'judge 2 t', P, moves, (0,))
     yield Large('the longest play, tidied', 'tidy 2 t', P, moves, (0,))

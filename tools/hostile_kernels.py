@@ -1,6 +1,6 @@
 """Texts of kernels that are made to break the program, each with its one right answer.
 
-A text with a fault is made by spoiling it at a place, so its code and place are known. In the lists `@` stands where the fault is; it
+A text with a fault is made by spoiling it at a place, so its code and place are known. In the lists `@` marks the fault; it
 begins no token, and is taken out. The answers of texts without a fault are worked out by tools/run_code.py.
 """
 import itertools
@@ -14,7 +14,7 @@ KNOT = b'kernel knot { in x; out y; tmp a; tmp b; tmp c; a = x+1; b = x*2; c = a
 
 
 def spoiled(code, before, rest):
-    """A fault with this code behind the first bytes."""
+    """A fault with this code after the first bytes."""
     return code, len(before), before + rest
 
 
@@ -100,7 +100,7 @@ def syntax_faults():
 
 
 def deep_faults():
-    """Parts that stand too deep: the token that opens the 33rd."""
+    """Parts that are nested too deep: the token that opens the 33rd."""
     for opener in ('(', '- ', 'min(', 'sel(', 'mad(1, 2, ', 'max(1, '):
         yield within('K13', 'out y; y = ' + opener * 32 + '@' + opener * 5)
     yield within('K13', 'out y; y = ' + '(' * 32 + '@' + '(' * 60000)

@@ -1,7 +1,7 @@
 # shellcheck shell=sh disable=SC2154
 # What is often meant at the place of a fault: read by tools/explain, which has the input and prints. Each hint is one line.
 
-# What stands around a place. lead: all tokens before it; before: the last 400 bytes, without comments and with single spaces; tight: the same
+# What is around a place. lead: all tokens before it; before: the last 400 bytes, without comments and with single spaces; tight: the same
 # without a space at its end; left: the word that tight ends with; statement: what of tight begins the statement; after: the next 40 bytes;
 # word: the word that after begins with.
 look_around() {
@@ -33,7 +33,7 @@ hint_at_character() {
             esac
         fi
         ;;
-    '?'* | ':'*) more "there is no c ? a : b: write sel(c, a, b), which is a if c is not 0, and else b" ;;
+    '?'* | ':'*) more "there is no c ? a : b: write sel(c, a, b), which is a if c is not 0, and otherwise b" ;;
     '~'*) more "there is no ~: x ^ -1 turns every bit of x" ;;
     '!'*) more "there is no !: a branch compares by != or has an else" ;;
     esac
@@ -87,16 +87,16 @@ hint_at_call() {
     esac
 }
 
-# K3 at a sign of a relation, where none is allowed.
+# K3 at a sign of a relation that is not allowed there.
 hint_at_relation() {
     case $statement in
     'if ('* | 'if('*) more "a branch has no parentheses: if i < 3 { .. }" ;;
     'if '*) more "a branch compares two indices once: nest a second if in it" ;;
-    *) more "a comparison is no value: min, max and sel(c, a, b) choose without one" ;;
+    *) more "a comparison is not a value: min, max and sel(c, a, b) choose without one" ;;
     esac
 }
 
-# K3: a place where no kernel goes on.
+# K3: no kernel goes on here.
 hint_at_syntax() {
     case $tight@$after in
     *'@<<'* | *'<@<'*) more "there are no shifts: x << 3 is x * 8"; return ;;

@@ -1,8 +1,8 @@
 #!/usr/bin/env python3
-"""The bound of each kernel beside the sums of bounds over parts, which docs/PARTS.md has as a table.
+"""The bound of each kernel beside the sums of bounds over parts, which docs/BOUNDS.md has as a table.
 
 parts_table.py table   prints the table
-parts_table.py check   compares it with docs/PARTS.md; status 1 where they differ
+parts_table.py check   compares it with docs/BOUNDS.md; status 1 if they differ
 
 The program is crates/pebble/out/pebble, or what PEBBLE names. Each kernel has the fewest slots that it can do with, each search the budget
 8000, and there are 1 to 8 parts. Takes about ten seconds.
@@ -17,7 +17,7 @@ import tempfile
 TOP = os.path.dirname(os.path.dirname(os.path.abspath(__file__)))
 PEBBLE = os.environ.get("PEBBLE", os.path.join(TOP, "crates", "pebble", "out", "pebble"))
 KERNELS = os.path.join(TOP, "kernels")
-PAGE = os.path.join(TOP, "docs", "PARTS.md")
+PAGE = os.path.join(TOP, "docs", "BOUNDS.md")
 BUDGET = "8000"
 PARTS = range(1, 9)
 HEAD = "| Kernel | S | cost | bound | " + " | ".join(f"K = {k}" for k in PARTS) + " |"
@@ -37,7 +37,7 @@ def number(pattern, text):
 
 
 def row(kernel, file):
-    """The row of a kernel, or None where its plan is Optimal."""
+    """The row of a kernel, or None if its plan is Optimal."""
     slots = str(number(r"^degree (\d+)$", asked(["graph"], kernel)) + 1)
     plan = asked(["plan", slots, file, BUDGET], kernel)
     if "; verdict Optimal" in plan:
@@ -65,7 +65,7 @@ def main():
         begin = lines.index(HEAD)
         made = table()
         if lines[begin : begin + len(made)] != made:
-            sys.exit("parts_table.py: docs/PARTS.md has another table")
+            sys.exit("parts_table.py: docs/BOUNDS.md has another table")
         print(f"parts_table.py: {len(made) - 2} rows agree")
     else:
         sys.exit(__doc__)

@@ -53,7 +53,7 @@ def values_of(data):
 
 
 def read_lines(data, reader):
-    """Goes through a text's lines by a reader with take(words), which says whether a line may stand, and is_done. The bad line, or None."""
+    """Goes through a text's lines by a reader with take(words), which says whether a line is allowed, and is_done. The bad line, or None."""
     *lines, last = data.split(b'\n')
     for number, line in enumerate(lines, 1):
         if not line.startswith(b';') and not reader.take(line.split(b' ')):
@@ -273,7 +273,7 @@ def steps_of(game, red, blue):
 
 
 def finish_of(game, red, blue):
-    """The cost of the finish, or None where some output has no pebble."""
+    """The cost of the finish, or None if some output has no pebble."""
     return None if game.outputs & ~(red | blue) else game.store * size(game.outputs & ~blue)
 
 
@@ -414,12 +414,12 @@ def refusal_of(game, table, covered=False):
     return None
 
 
-def check_answer(game, data, covered=False):
-    """The answer of `check`, or of `covercheck`, to a file for a game."""
+def check_answer(game, data, covered=False, confirmed=False):
+    """The answer of `check`, or of `covercheck` or `confirm`, to a file for a game."""
     table = table_of(data, covered)
     reason = (1, 0) if table is None else refusal_of(game, table, covered)
     if reason is None:
-        return 0, b'accepted bound %d\n' % table.bound
+        return 0, b'%s bound %d\n' % (b'confirmed' if confirmed else b'accepted', table.bound)
     return 1, b'refused reason %d row %d\n' % reason
 
 
@@ -466,7 +466,7 @@ def moved(game, red, blue, name, v):
 
 
 def play_answer(game, data):
-    """The answer of `judge` to a file for a game: of `tidy` too, where it is a fault."""
+    """The answer of `judge` to a file for a game: of `tidy` too, if it is a fault."""
     play = PlayReader(game.vertices)
     line = 0 if len(data) > TABLE_LIMIT else read_lines(data, play)
     if line is not None:

@@ -18,7 +18,7 @@
   run_code.py gallery FOLDER KERNEL..
       checks that the sources in the folder, which are tests, have the text of each kernel and no other, with the right numbers
 
-KERNEL, OUTPUT, TABLE, VALUES and DOCUMENT are files. Python 3 alone is needed. The exit status is 0 where all agrees, 1 where something
+KERNEL, OUTPUT, TABLE, VALUES and DOCUMENT are files. Only Python 3 is needed. The exit status is 0 if all agrees, 1 if something
 does not (one line says what), and 2 for other words.
 
 The kernels may use the whole language. The evaluator is for kernels without a fault: it stops at some of the faults, and tells none by
@@ -32,6 +32,10 @@ import subprocess
 import sys
 from collections import namedtuple
 
+sys.dont_write_bytecode = True
+sys.path.insert(0, os.path.join(os.path.dirname(os.path.dirname(os.path.realpath(__file__))), 'python'))
+from pebbletools.texts import GREATEST, LEAST, TextError as Disagrees, demand, read_code_lines
+
 Kernel = namedtuple('Kernel', 'name declarations body')
 Declaration = namedtuple('Declaration', 'kind name sizes')
 Assign = namedtuple('Assign', 'target value')
@@ -41,7 +45,6 @@ Place = namedtuple('Place', 'name indices')
 Call = namedtuple('Call', 'word operands')                      # an operator is a call of its operation; a number is an int
 Trace = namedtuple('Trace', 'preds inputs outputs results lines')  # a graph, the numbers of the outputs, and the printed operations
 Facts = namedtuple('Facts', 'vertices inputs degree bound')
-Code = namedtuple('Code', 'slots words inputs outputs instructions')
 
 RESERVED = set('kernel in out tmp for min max sel mad if else by'.split())
 OPERATIONS = {                                                  # how many operands, and the result before it is wrapped
@@ -53,16 +56,6 @@ OPERATIONS = {                                                  # how many opera
 }
 WORD_OF_SIGN = {'+': 'add', '-': 'sub', '*': 'mul', '&': 'and', '|': 'or', '^': 'xor'}
 RELATIONS = {'==': operator.eq, '!=': operator.ne, '<': operator.lt, '<=': operator.le, '>': operator.gt, '>=': operator.ge}
-LEAST, GREATEST = -2 ** 63, 2 ** 63 - 1
-
-
-class Disagrees(Exception):
-    """Something is not as it has to be; the text says what."""
-
-
-def demand(holds, what):
-    if not holds:
-        raise Disagrees(what)
 
 
 def program():
@@ -133,7 +126,7 @@ class Reader:
 
     def next(self, test, wanted):
         token = self.tokens.pop() if self.tokens else None
-        demand(test(token), f'{wanted} is wanted where {token!r} stands')
+        demand(test(token), f'expected {wanted}, got {token!r}')
         return token
 
     def any(self):
@@ -266,7 +259,7 @@ class Reader:
         while self.sees('in', 'out', 'tmp'):
             declarations.append(self.declaration())
         kernel = Kernel(name, declarations, self.body())
-        demand(not self.tokens, 'tokens stand behind the kernel')
+        demand(not self.tokens, 'tokens follow the kernel')
         return kernel
 
 
@@ -435,54 +428,6 @@ def verdict_of(cost, bound):
 
 # ---- scratch code
 
-def read_number(text, high):
-    demand(re.fullmatch(r'0|[1-9][0-9]{0,8}', text) and int(text) <= high, f'{text} is no number up to {high}')
-    return int(text)
-
-
-def read_operand(text, slots):
-    if text.startswith('s'):
-        return 'slot', read_number(text[1:], slots - 1)
-    demand(re.fullmatch(r'#(0|-?[1-9][0-9]*)', text), f'{text} is no operand')
-    demand(LEAST <= int(text[1:]) <= GREATEST, f'{text} has more than 64 bits')
-    return 'constant', int(text[1:])
-
-
-def read_instruction(parts, slots, words):
-    word, slot = parts[0], read_number(parts[1], slots - 1)
-    if word in ('load', 'store'):
-        demand(len(parts) == 3, f'{word} has one slot and one word')
-        return word, slot, read_number(parts[2], words - 1)
-    demand(word == 'set' or word in OPERATIONS, f'{word} is no instruction')
-    operands = [read_operand(text, slots) for text in parts[2:]]
-    demand(len(operands) == (1 if word == 'set' else OPERATIONS[word][0]), f'{word} has another number of operands')
-    demand(word != 'set' or operands[0][0] == 'constant', 'set has no constant')
-    return word, slot, operands
-
-
-def read_code(lines):
-    """The code of a text's lines without comments: slots, words, inputs, outputs, instructions, end."""
-    rows = [line.split(' ') for line in lines]
-    demand(len(rows) >= 3 and rows[-1] == ['end'], 'the code does not end with end')
-    demand([row[0] for row in rows[:2]] == ['slots', 'words'], 'the code does not begin with slots and words')
-    slots, words = read_number(' '.join(rows[0][1:]), 64), read_number(' '.join(rows[1][1:]), 256)
-    code, section = Code(slots, words, [], [], []), 0
-    for row in rows[2:-1]:
-        place = {'in': 0, 'out': 1}.get(row[0], 2)
-        demand(place >= section, f'the line {" ".join(row)} stands too late')
-        section = place
-        demand(len(row) >= 2, f'the line {row[0]} is too short')
-        if place == 0:
-            demand(len(row) == 2, 'in has a label')
-            code.inputs.append(row[1])
-        elif place == 1:
-            demand(len(row) == 3, 'out has a label and a word')
-            code.outputs.append((row[1], read_number(row[2], words - 1)))
-        else:
-            code.instructions.append(read_instruction(row, slots, words))
-    return code
-
-
 def run(code, values):
     """The outputs and the number of transfers; reading an empty slot or word is a fault."""
     slots, words, transfers = {}, dict(enumerate(values)), 0
@@ -540,7 +485,7 @@ def check_code(code, kernel, facts, cost, slots):
     for vector in input_vectors(facts.inputs):
         outputs, transfers = run(code, vector)
         demand(outputs == trace_of(kernel, vector).results, f'other outputs on {vector}')
-        demand(transfers == cost, f'{transfers} transfers where {cost} are printed')
+        demand(transfers == cost, f'{transfers} transfers, and {cost} are printed')
 
 
 def check(kernel_path, output_path, table_path, slots, status):
@@ -551,13 +496,13 @@ def check(kernel_path, output_path, table_path, slots, status):
     demand(text.endswith('\n'), 'the output does not end with a line feed')
     lines = text[:-1].split('\n')
     report = [line for line in lines if line.startswith(';')]
-    demand(lines[:len(report)] == report, 'the report does not stand first')
+    demand(lines[:len(report)] == report, 'the report does not come first')
     check_report(report, kernel, facts, cost, slots, int(status))
-    check_code(read_code(lines[len(report):]), kernel, facts, cost, slots)
+    check_code(read_code_lines(lines[len(report):]), kernel, facts, cost, slots)
     with open(table_path, 'rb') as file:
         table = file.read()
     wanted = b'RBPT' + struct.pack('>HHHII', 1, facts.vertices, slots, facts.bound, 0)
-    demand(table == wanted, f'the table is {table.hex()} in place of {wanted.hex()}')
+    demand(table == wanted, f'the table is {table.hex()} instead of {wanted.hex()}')
     print(f'{kernel.name}: {slots} slots, cost {cost}, bound {facts.bound}, {verdict_of(cost, facts.bound)}: agrees')
 
 

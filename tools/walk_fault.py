@@ -4,7 +4,7 @@
   walk_fault.py PLACE <KERNEL     prints a line such as: x[4] at i = 3, and x has the size 4
 
 PLACE is the place of the fault in bytes, as `pebble` prints it: that of the name. tools/explain shows the line. The kernel is read and run by
-tools/run_code.py. Python 3 alone is needed. Ends with 0, and with 1 and no line if there is no such fault.
+tools/run_code.py. Only Python 3 is needed. Ends with 0, and with 1 and no line if there is no such fault.
 """
 import sys
 
